@@ -1,0 +1,92 @@
+-- The turns of the loops that read and write a field.
+-- Assumes nothing.
+use mathlib.Core.Path.{_≡_, refl, _∙_}
+use mathlib.Core.List.{List}
+use Prim.Native.Nat.{ℕ, suc, _+_, _-_, _*_, _^_, _/_, _%_, _≤_, _<_}
+use native.Mathlib.Nat.{pow-suc, pow-le-pow-right, add-zero, sub-zero}
+use native.Mathlib.Omega.{arith}
+use lib.ListN.{length, getD, set, length-set}
+use lib.Seq.{sets}
+use Rattle.fields.specs.Le.{le, bytes}
+use Rattle.fields.proofs.Laws.{more}
+
+-- what is read of a field of w bytes, from its end down to byte `left`
+pub record Read (s : List ℕ) (at w value left : ℕ) : Type 0 where
+  pub inside : left ≤ w
+  pub is : value ≡ le s (at + left) (w - left)
+  pub small : value < 256 ^ (w - left)
+
+-- before the first byte nothing is read
+pub read-none : (s : List ℕ) (at w : ℕ) → Read s at w 0 w
+unfolding le
+read-none s at w =
+    let none : w - w ≡ 0 = omega arith in
+    record { inside = omega arith; is = rw none; small = rw none (omega arith) }
+
+-- after the last, the field
+pub read-all : (s : List ℕ) (at w value left : ℕ) → Read s at w value left → left ≤ 0 → (value ≡ le s at w) × (value < 256 ^ w)
+read-all s at w value left read h =
+    let none : left ≡ 0 = omega arith in
+    let here : at + left ≡ at = omega arith in
+    let whole : w - left ≡ w = omega arith in
+    (read .is ∙ rw (here, whole), rw whole at (read .small))
+
+module _ (s : List ℕ) (at w value left byte : ℕ) (read : Read s at w value left) (some : 0 < left) (narrow : byte < 256) where
+  shorter : w - (left - 1) ≡ suc (w - left)
+  shorter = omega (arith, read .inside)
+
+  -- the value with one byte more is below the next power
+  pub grown : value * 256 + byte < 256 ^ (w - (left - 1))
+  grown = rw (shorter, pow-suc 256 (w - left)) (omega (arith, more (256 ^ (w - left)) value byte (read .small) narrow))
+
+  -- which a number of eight bytes holds
+  pub held : w ≤ 8 → value * 256 + byte < 256 ^ 8
+  held h =
+      let most : 256 ^ (w - (left - 1)) ≤ 256 ^ 8 = pow-le-pow-right (omega arith) {i = w - (left - 1)} {j = 8} (omega arith) in
+      omega (arith, grown)
+
+  -- one byte more is read
+  pub turned : byte ≡ getD s (at + (left - 1)) 0 → Read s at w (value * 256 + byte) (left - 1)
+  unfolding le
+  turned e =
+      let above : at + left ≡ suc (at + (left - 1)) = omega arith in
+      let value-is : value ≡ le s (suc (at + (left - 1))) (w - left) = read .is ∙ rw above in
+      let whole : le s (at + (left - 1)) (w - (left - 1)) ≡ getD s (at + (left - 1)) 0 + 256 * le s (suc (at + (left - 1))) (w - left) = rw shorter in
+      record {
+        inside = omega (arith, read .inside);
+        is = rw whole (omega arith);
+        small = grown;
+      }
+
+-- what is left is one byte more than after the next
+sub-lower : (i w : ℕ) → i < w → w - i ≡ suc (w - (i + 1))
+sub-lower i w h = omega arith
+
+-- what is stored of a field of w bytes, up to byte i: what is left of its value gives the rest
+pub record Stored (s : List ℕ) (at w v : ℕ) (out : List ℕ) (left i : ℕ) : Type 0 where
+  pub same-length : length out ≡ length s
+  pub inside : i ≤ w
+  pub rest : sets out (at + i) (bytes (w - i) left) ≡ sets s at (bytes w v)
+
+-- before the first byte nothing is stored
+pub stored-none : (s : List ℕ) (at w v : ℕ) → Stored s at w v s v 0
+stored-none s at w v = record { same-length = refl; inside = omega arith; rest = rw (add-zero at, sub-zero w) }
+
+-- one byte more is stored
+pub stored-more : (s : List ℕ) (at w v : ℕ) (out : List ℕ) (left i : ℕ) → Stored s at w v out left i → i < w
+    → Stored s at w v (set out (at + i) (left % 256)) (left / 256) (i + 1)
+stored-more s at w v out left i stored h =
+    let next : at + (i + 1) ≡ suc (at + i) = omega arith in
+    let here : sets out (at + i) (bytes (suc (w - (i + 1))) left) ≡ sets s at (bytes w v) =
+    rw (sub-lower i w h) at (stored .rest) in
+    record {
+      same-length = length-set out (at + i) (left % 256) ∙ stored .same-length;
+      inside = omega arith;
+      rest = rw next here;
+    }
+
+-- after the last, the field
+pub stored-all : (s : List ℕ) (at w v : ℕ) (out : List ℕ) (left i : ℕ) → Stored s at w v out left i → w ≤ i → out ≡ sets s at (bytes w v)
+stored-all s at w v out left i stored h =
+    let none : w - i ≡ 0 = omega (arith, stored .inside) in
+    rw none at (stored .rest)
