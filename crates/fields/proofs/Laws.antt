@@ -8,7 +8,7 @@ use native.Mathlib.Omega.{arith}
 use lib.ListN.{length, getD, List·getD-append, length-append}
 use lib.Seq.{sets, getD-append-add}
 use borrow.Author.Tests.{le-leb, lt-leb}
-use Rattle.fields.specs.Le.{le, bytes, written}
+use Rattle.fields.specs.Le.{le, bytes, patched}
 
 -- one byte more, above
 pub more : (p value byte : ℕ) → value < p → byte < 256 → byte + 256 * value < p * 256
@@ -52,11 +52,11 @@ le-bytes (suc w) v t h =
     rw (le-past (v % 256 ∷ []) (bytes w (v / 256) ++ t) 0 w, le-bytes w (v / 256) t small) (omega (arith, div-add-mod' v 256))
 
 -- a field that fits is stored byte by byte
-pub written-whole : (s : List ℕ) (at w v : ℕ) → at + w ≤ length s → written s at w v ≡ sets s at (bytes w v)
-unfolding written
-written-whole s at w v h = rw (le-leb (at + w) (length s) h)
+pub patched-whole : (s : List ℕ) (at w v : ℕ) → at + w ≤ length s → patched s at w v ≡ sets s at (bytes w v)
+unfolding patched
+patched-whole s at w v h = rw (le-leb (at + w) (length s) h)
 
 -- one that does not fit changes nothing
-pub written-none : (s : List ℕ) (at w v : ℕ) → length s < at + w → written s at w v ≡ s
-unfolding written
-written-none s at w v h = rw (lt-leb (at + w) (length s) h)
+pub patched-none : (s : List ℕ) (at w v : ℕ) → length s < at + w → patched s at w v ≡ s
+unfolding patched
+patched-none s at w v h = rw (lt-leb (at + w) (length s) h)

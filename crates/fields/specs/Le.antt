@@ -18,5 +18,5 @@ bytes zero v = []
 bytes (suc w) v = v % 256 ∷ bytes w (v / 256)
 
 -- a field of w bytes written at a place; one that does not fit whole changes nothing
-unfoldable pub written : List ℕ → ℕ → ℕ → ℕ → List ℕ
-written s at w v = cond (leb (at + w) (length s)) (sets s at (bytes w v)) s
+unfoldable pub patched : List ℕ → ℕ → ℕ → ℕ → List ℕ
+patched s at w v = cond (leb (at + w) (length s)) (sets s at (bytes w v)) s

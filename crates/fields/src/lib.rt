@@ -5,7 +5,7 @@
 ghost use mathlib.Core.Path.{_≡_};
 ghost use Prim.Native.Nat.{_+_, _^_, _≤_, _<_};
 ghost use lib.ListN.{getD};
-ghost use Rattle.fields.specs.Le.{le, written};
+ghost use Rattle.fields.specs.Le.{le, patched};
 
 // The byte `offset` past `at`, and 0 where the slice has none there.
 fn byte(s: &[u8], at: usize, offset: usize) -> u64
@@ -56,7 +56,7 @@ pub fn read64(s: &[u8], at: usize) -> u64
 
 // The `width` low bytes of a number at `at`, where they fit whole.
 fn write(out: &mut [u8], at: usize, width: usize, value: u64)
-    ensures { λ _. ⌜ now (out .exit) ≡ written (now (out .entry)) at width value ⌝ }
+    ensures { λ _. ⌜ now (out .exit) ≡ patched (now (out .entry)) at width value ⌝ }
 {
     if out.len() < width {
         return;
@@ -75,21 +75,21 @@ fn write(out: &mut [u8], at: usize, width: usize, value: u64)
 
 // Two bytes at `at`.
 pub fn write16(out: &mut [u8], at: usize, value: u16)
-    ensures { λ _. ⌜ now (out .exit) ≡ written (now (out .entry)) at 2 value ⌝ }
+    ensures { λ _. ⌜ now (out .exit) ≡ patched (now (out .entry)) at 2 value ⌝ }
 {
     write(out, at, 2, value as u64);
 }
 
 // Four bytes at `at`.
 pub fn write32(out: &mut [u8], at: usize, value: u32)
-    ensures { λ _. ⌜ now (out .exit) ≡ written (now (out .entry)) at 4 value ⌝ }
+    ensures { λ _. ⌜ now (out .exit) ≡ patched (now (out .entry)) at 4 value ⌝ }
 {
     write(out, at, 4, value as u64);
 }
 
 // Eight bytes at `at`.
 pub fn write64(out: &mut [u8], at: usize, value: u64)
-    ensures { λ _. ⌜ now (out .exit) ≡ written (now (out .entry)) at 8 value ⌝ }
+    ensures { λ _. ⌜ now (out .exit) ≡ patched (now (out .entry)) at 8 value ⌝ }
 {
     write(out, at, 8, value);
 }

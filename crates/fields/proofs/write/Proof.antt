@@ -4,7 +4,7 @@ use mathlib.Core.Path.{sym, _∙_}
 use Prim.Native.Nat.{_+_, _-_}
 use native.Mathlib.Omega.{arith}
 use borrow.Author.Needs.{needs}
-use Rattle.fields.proofs.Laws.{written-whole, written-none}
+use Rattle.fields.proofs.Laws.{patched-whole, patched-none}
 use Rattle.fields.proofs.Loops.{Stored, stored-none, stored-more, stored-all}
 use Rattle.fields.proofs.write.Statement.{statement}
 use Rattle.fields.proofs.write.Tie as tie
@@ -16,13 +16,13 @@ abbrev μ-loop : tie.MeasureT-loop
 μ-loop out₀ at width value left₀ i₀ out left i = width - i
 
 returns : tie.Need-returns Inv-loop μ-loop
-returns c = sym (written-none _ _ _ _ (omega arith))
+returns c = sym (patched-none _ _ _ _ (omega arith))
 
 sub-if2 : tie.Need-sub-if2 Inv-loop μ-loop
 sub-if2 c = search needs
 
 returns-2 : tie.Need-returns-2 Inv-loop μ-loop
-returns-2 c = sym (written-none _ _ _ _ (omega arith))
+returns-2 c = sym (patched-none _ _ _ _ (omega arith))
 
 loop-holds : tie.Need-loop-holds Inv-loop μ-loop
 loop-holds c = stored-none _ _ _ _
@@ -50,7 +50,7 @@ same-length c = c .before .loop .inv .same-length
 
 returns-3 : tie.Need-returns-3 Inv-loop μ-loop
 returns-3 c =
-    stored-all _ _ _ _ _ _ _ (c .before .loop .inv) (c .loop-test .left) ∙ sym (written-whole _ _ _ _ (omega arith))
+    stored-all _ _ _ _ _ _ _ (c .before .loop .inv) (c .loop-test .left) ∙ sym (patched-whole _ _ _ _ (omega arith))
 
 pub write-spec : {M : Type 1} → statement M
 write-spec =

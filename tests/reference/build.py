@@ -1,0 +1,177 @@
+"""Images to test with: whole ones, or with any field given another value.
+
+The headers are packed field after field, as the source documents show them,
+and share no table of positions with the modules that read them.
+"""
+
+import struct
+from typing import Any, NamedTuple, Optional, Sequence
+
+import crc
+
+FILLER = b"\xA5" * 8
+
+
+class ChunkPlan(NamedTuple):
+    """A chunk to build: its header fields, its data, the bytes its blocks hold."""
+
+    type: int
+    blocks: int
+    data: bytes = b""
+    total_size: Optional[int] = None
+    reserved: int = 0
+
+
+def raw(data: bytes, block_size: int) -> ChunkPlan:
+    """A raw chunk of whole blocks."""
+    return ChunkPlan(0xCAC1, len(data) // block_size, data)
+
+
+def fill(word: bytes, blocks: int) -> ChunkPlan:
+    """A fill chunk."""
+    return ChunkPlan(0xCAC2, blocks, word)
+
+
+def skip(blocks: int) -> ChunkPlan:
+    """A don't-care chunk."""
+    return ChunkPlan(0xCAC3, blocks)
+
+
+def unknown(chunk_type: int, blocks: int, data: bytes = b"") -> ChunkPlan:
+    """A chunk of another type."""
+    return ChunkPlan(chunk_type, blocks, data)
+
+
+def planned_checksum(plans: Sequence[ChunkPlan], block_size: int) -> int:
+    """The checksum that the plans' blocks have, skipped ones as zeros."""
+    state = crc.ALL_ONES
+    for plan in plans:
+        length = plan.blocks * block_size
+        if plan.type == 0xCAC1:
+            state = crc.after_bytes(state, plan.data)
+        elif plan.type == 0xCAC2:
+            word = int.from_bytes(plan.data, "little")
+            state = crc.after_words(state, word, length // 4)
+        else:
+            state = crc.after_zeros(state, length)
+    return state ^ crc.ALL_ONES
+
+
+def padding(count: int) -> bytes:
+    """Bytes past the known fields of a header, the first of them not 0."""
+    return FILLER[:count] + bytes(max(0, count - len(FILLER)))
+
+
+def chunk(plan: ChunkPlan, header_size: int = 12) -> bytes:
+    """A chunk; its header is filled up to the stated size."""
+    total_size = plan.total_size
+    if total_size is None:
+        total_size = header_size + len(plan.data)
+    head = struct.pack("<HHII", plan.type, plan.reserved, plan.blocks, total_size)
+    return head + padding(header_size - 12) + plan.data
+
+
+def sparse_image(block_size: int, plans: Sequence[ChunkPlan], **given: int) -> bytes:
+    """A sparse image with the right header, save for the fields that are given."""
+    header = {
+        "magic": 0xED26FF3A,
+        "major": 1,
+        "minor": 0,
+        "file_header_size": 28,
+        "chunk_header_size": 12,
+        "block_size": block_size,
+        "total_blocks": sum(plan.blocks for plan in plans),
+        "total_chunks": len(plans),
+    }
+    unknown_names = set(given) - set(header) - {"checksum"}
+    assert not unknown_names, unknown_names
+    header.update(given)
+    if "checksum" not in header:
+        header["checksum"] = planned_checksum(plans, block_size)
+    head = struct.pack("<IHHHHIIII", *header.values())
+    head += padding(max(28, header["file_header_size"]) - 28)
+    body = b"".join(chunk(plan, max(12, header["chunk_header_size"])) for plan in plans)
+    return head + body
+
+
+class BootPlan(NamedTuple):
+    """The fields of a boot image header; None for the value that is right."""
+
+    version: int
+    kernel: int = 0
+    ramdisk: int = 0
+    second: int = 0
+    recovery: int = 0
+    recovery_offset: int = 0
+    dtb: int = 0
+    signature: int = 0
+    page: int = 2048
+    header_size: Optional[int] = None
+    magic: bytes = b"ANDROID!"
+    filler: int = 0
+
+
+HEADER_LENGTHS = (1632, 1648, 1660, 1580, 1584)
+
+
+def boot_header(plan: BootPlan) -> bytes:
+    """A boot image header of the plan's version, as source document 004 has it."""
+    header_size = plan.header_size
+    if header_size is None:
+        header_size = HEADER_LENGTHS[plan.version]
+    if plan.version >= 3:
+        return new_boot_header(plan, header_size)
+    return old_boot_header(plan, header_size)
+
+
+def old_boot_header(plan: BootPlan, header_size: int) -> bytes:
+    """Versions 0 to 2; addresses and texts hold the filler."""
+    text = bytes([plan.filler])
+    address = int.from_bytes(text * 4, "little")
+    head = struct.pack(
+        "<8s10I",
+        plan.magic,
+        plan.kernel,
+        address,
+        plan.ramdisk,
+        address,
+        plan.second,
+        address,
+        address,
+        plan.page,
+        plan.version,
+        address,
+    )
+    head += text * (16 + 512 + 32 + 1024)
+    if plan.version >= 1:
+        head += struct.pack("<IQI", plan.recovery, plan.recovery_offset, header_size)
+    if plan.version >= 2:
+        head += struct.pack("<I", plan.dtb) + text * 8
+    return head
+
+
+def new_boot_header(plan: BootPlan, header_size: int) -> bytes:
+    """Versions 3 and 4; os version, reserved fields and texts hold the filler."""
+    text = bytes([plan.filler])
+    head = struct.pack("<8sII", plan.magic, plan.kernel, plan.ramdisk)
+    head += text * 4 + struct.pack("<I", header_size) + text * 16
+    head += struct.pack("<I", plan.version) + text * 1536
+    if plan.version >= 4:
+        head += struct.pack("<I", plan.signature)
+    return head
+
+
+def boot_image(version: int, length: int, **fields: Any) -> bytes:
+    """A boot image cut or filled up with zeros to a length."""
+    header = boot_header(BootPlan(version, **fields))
+    return header[:length] + bytes(length - len(header[:length]))
+
+
+def two_chunks(second_type: int = 0xCAC3, **given: int) -> bytes:
+    """P2 of document 01, or with fields given other values."""
+    return sparse_image(4, [fill(b"\xFF" * 4, 1), ChunkPlan(second_type, 2)], **given)
+
+
+def with_bytes(image: bytes, at: int, new: bytes) -> bytes:
+    """The image with the bytes at a position replaced."""
+    return image[:at] + new + image[at + len(new):]

@@ -1,0 +1,194 @@
+"""Group `boot`: the sections of boot images."""
+
+import itertools
+import random
+from typing import Dict, List, Tuple
+
+import boot
+import build
+from cases_common import Group, below, patched_image, pick
+
+VERSIONS = range(5)
+PAGE_SIZES = (0, 1, 1024, 2047, 2048, 3072, 4096, 6144, 8192, 12288, 16384, 32768, 2**31)
+LARGE = 2**32 - 1
+
+# The sections of each version, and a size for each in the base images.
+SECTIONS = (
+    ("kernel", "ramdisk", "second"),
+    ("kernel", "ramdisk", "second", "recovery"),
+    ("kernel", "ramdisk", "second", "recovery", "dtb"),
+    ("kernel", "ramdisk"),
+    ("kernel", "ramdisk", "signature"),
+)
+BASE_SIZES = dict(kernel=3000, ramdisk=100, second=5, recovery=7, dtb=9, signature=11)
+BASE_RECOVERY_OFFSET = 10240
+BASE_LENGTH = 12400
+
+
+def section_values(located: boot.Located) -> Tuple[int, ...]:
+    """For each of the six sections: present, position, size; zeros if absent."""
+    found = {section.name: section for section in located.sections}
+    triples: List[int] = []
+    for name in boot.SECTION_NAMES:
+        if name in found:
+            triples += [1, found[name].position, found[name].size]
+        else:
+            triples += [0, 0, 0]
+    return tuple(triples)
+
+
+def values(image: bytes) -> Tuple[int, ...]:
+    """Number and version, then the sections."""
+    answer = boot.locate(image)
+    if isinstance(answer, boot.Refusal):
+        return (answer.number, 0) + (0,) * (3 * len(boot.SECTION_NAMES))
+    return (0, answer.version) + section_values(answer)
+
+
+def example_images() -> List[bytes]:
+    """P10 and P11 of document 01."""
+    return [
+        build.boot_image(3, 12289, kernel=4097, ramdisk=1),
+        build.boot_image(3, 12288, kernel=4097, ramdisk=1),
+        build.boot_image(2, 6145, kernel=2048, ramdisk=1, dtb=1),
+    ]
+
+
+def base_image(version: int) -> bytes:
+    """An image with room for all sections of its version, none of them empty."""
+    sizes = {name: BASE_SIZES[name] for name in SECTIONS[version]}
+    return build.boot_image(version, BASE_LENGTH, recovery_offset=BASE_RECOVERY_OFFSET, **sizes)
+
+
+def cut_lengths(version: int) -> List[int]:
+    """Every length at which a test of the base image changes its answer, and near."""
+    located = boot.locate(base_image(version))
+    assert isinstance(located, boot.Located)
+    edges = {0, 8, 40, 44, build.HEADER_LENGTHS[version], 2048, 4096}
+    for section in located.sections:
+        edges |= {section.position, section.position + section.size}
+    near = {edge + d for edge in edges for d in (-1, 0, 1)}
+    return sorted(length for length in near if 0 <= length <= BASE_LENGTH)
+
+
+def cut_images() -> List[bytes]:
+    """The base images, whole and cut."""
+    return [base_image(v)[:length] for v in VERSIONS for length in cut_lengths(v)]
+
+
+def damaged_images() -> List[bytes]:
+    """One byte damaged: before the texts, and after them up to the header's end."""
+    images = []
+    for version in VERSIONS:
+        image = base_image(version)
+        texts_end = 1632 if version < 3 else 1580
+        tail = range(texts_end, build.HEADER_LENGTHS[version])
+        for at in itertools.chain(range(48), tail):
+            for mask in (0x01, 0x80):
+                images.append(build.with_bytes(image, at, bytes([image[at] ^ mask])))
+    return images
+
+
+def page_images() -> List[bytes]:
+    """Every page size in every version; versions 3 and 4 have no such field."""
+    images = []
+    for version, page in itertools.product(range(3), PAGE_SIZES):
+        images.append(build.boot_image(version, 40000, page=page, kernel=5000, ramdisk=1))
+        images.append(build.boot_image(version, 1700, page=page))
+    for version, page in itertools.product((3, 4), PAGE_SIZES):
+        field = page.to_bytes(4, "little")
+        images.append(build.with_bytes(build.boot_image(version, 5000, kernel=9), 36, field))
+    return images
+
+
+def single_section_images() -> List[bytes]:
+    """One section alone, around one page long, with just enough bytes or one less."""
+    images = []
+    for version in VERSIONS:
+        page = 2048 if version < 3 else 4096
+        for name, size in itertools.product(SECTIONS[version], (1, page - 1, page, page + 1)):
+            sizes = {name: size}
+            image = build.boot_image(version, page + size, recovery_offset=page, **sizes)
+            images += [image, image[:-1]]
+    return images
+
+
+def header_images() -> List[bytes]:
+    """Headers alone, unread fields filled, and versions past 4."""
+    images = []
+    for version, filler in itertools.product(VERSIONS, (0x00, 0x5A, 0xFF)):
+        images.append(build.boot_image(version, build.HEADER_LENGTHS[version], filler=filler))
+    for number in (5, 6, 0x100, 0x101, 0x10003, 0x1000002, LARGE):
+        images.append(build.with_bytes(base_image(2), 40, number.to_bytes(4, "little")))
+    return images
+
+
+def recovery_images() -> List[bytes]:
+    """A recovery offset wrong in each byte; free where the section is empty."""
+    images = []
+    for version in (1, 2):
+        for byte in range(8):
+            offset = BASE_RECOVERY_OFFSET ^ (1 << (8 * byte))
+            sizes = {name: BASE_SIZES[name] for name in SECTIONS[version]}
+            images.append(build.boot_image(version, BASE_LENGTH, recovery_offset=offset, **sizes))
+            sizes["recovery"] = 0
+            images.append(build.boot_image(version, BASE_LENGTH, recovery_offset=offset, **sizes))
+    return images
+
+
+def wide_images() -> List[bytes]:
+    """Positions that pass 2^32, the recovery offset right or right in 32 bits."""
+    images = []
+    large = (LARGE, LARGE - 2047, LARGE - 2048, 2**31)
+    for version, kernel, second in itertools.product((1, 2), large, (0, LARGE)):
+        sizes: Dict[str, int] = dict(kernel=kernel, ramdisk=kernel, second=second)
+        page_end = [boot.rounded_up(size, 2048) for size in (kernel, kernel, second)]
+        position = 2048 + sum(page_end)
+        for offset in (position, position % 2**32, position ^ 2**32):
+            images.append(
+                build.boot_image(version, 9000, recovery=1, recovery_offset=offset, **sizes)
+            )
+    for version, size in itertools.product(VERSIONS, large + (LARGE - 4095,)):
+        images.append(build.boot_image(version, 9000, kernel=size))
+        images.append(build.boot_image(version, 9000, ramdisk=size))
+    return images
+
+
+def order_images() -> List[bytes]:
+    """Every set of faults at every length that is a fault of its own."""
+    images = []
+    lengths = (43, 44, 1659, 1660, BASE_LENGTH)
+    for length, *faults in itertools.product(lengths, *[(False, True)] * 5):
+        magic, version, header_size, page, recovery = faults
+        image = build.boot_image(
+            2,
+            length,
+            magic=b"ANDROID?" if magic else b"ANDROID!",
+            header_size=1648 if header_size else 1660,
+            page=1024 if page else 2048,
+            recovery_offset=BASE_RECOVERY_OFFSET + recovery,
+            **{name: BASE_SIZES[name] for name in SECTIONS[2]},
+        )
+        images.append(build.with_bytes(image, 40, b"\x05") if version else image)
+    return images
+
+
+def random_image(rng: random.Random) -> bytes:
+    """Sections of any size, often empty; the recovery offset mostly right."""
+    version = below(rng, 5)
+    page = pick(rng, (2048, 4096, 8192, 16384))
+    sizes = {name: pick(rng, (0, 1, below(rng, 9000))) for name in SECTIONS[version]}
+    before = [sizes.get(name, 0) for name in ("kernel", "ramdisk", "second")]
+    offset = page + sum(boot.rounded_up(size, page) for size in before)
+    offset += pick(rng, (0, 0, 0, page))
+    length = 1600 + below(rng, 60000)
+    return build.boot_image(version, length, page=page, recovery_offset=offset, **sizes)
+
+
+def group(rng: random.Random) -> Group:
+    """All cases of the group."""
+    images = example_images() + cut_images() + damaged_images() + page_images()
+    images += single_section_images() + header_images() + recovery_images()
+    images += wide_images() + order_images()
+    images += [random_image(rng) for _ in range(150)]
+    return Group(b"".join(map(patched_image, images)), [values(image) for image in images])

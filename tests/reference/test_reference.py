@@ -1,0 +1,663 @@
+"""Holds the reference program against document 01.
+
+Run by `python3 tests/reference/test_reference.py`.
+"""
+
+import random
+import unittest
+from typing import List, Sequence
+
+import boot
+import build
+import crc
+import fields
+import lister
+import slots
+import sparse
+import store
+import writer
+from slots import Record, Slot
+from sparse import Accepted, Refusal
+
+# P2, typed from document 01: block size 4, total 3, fill 1 block, don't care 2.
+P2 = bytes.fromhex(
+    "3AFF26ED 0100 0000 1C00 0C00 04000000 03000000 02000000 FFFFFFFF"
+    "C2CA 0000 01000000 10000000 FFFFFFFF"
+    "C3CA 0000 02000000 0C000000"
+)
+P1 = bytes.fromhex("3AFF26ED01000000 1C000C0000100000") + bytes(12)
+OLD = bytes(range(100, 112))
+
+
+def random_bytes(rng: random.Random, count: int) -> bytes:
+    return bytes(rng.getrandbits(8) for _ in range(count))
+
+
+def random_plan(rng: random.Random, block_size: int) -> build.ChunkPlan:
+    """A small chunk of any kind, sometimes empty."""
+    blocks = rng.randrange(4)
+    kind = rng.randrange(4)
+    if kind == 0:
+        return build.raw(random_bytes(rng, blocks * block_size), block_size)
+    if kind == 1:
+        return build.fill(random_bytes(rng, 4), blocks)
+    if kind == 2:
+        return build.skip(blocks)
+    return build.unknown(rng.choice([0, 0xCAC0, 0xCAC4]), blocks, bytes(4 * blocks))
+
+
+def random_image(rng: random.Random) -> bytes:
+    """A small image, now and then one to refuse."""
+    block_size = rng.choice([4, 8, 12])
+    plans = [random_plan(rng, block_size) for _ in range(rng.randrange(5))]
+    image = build.sparse_image(block_size, plans)
+    if rng.randrange(5) == 0:
+        return image + b"\0"
+    if rng.randrange(5) == 0:
+        return build.sparse_image(block_size, plans, checksum=rng.getrandbits(32))
+    return image
+
+
+class TestCrc(unittest.TestCase):
+    def test_check_value(self) -> None:
+        self.assertEqual(crc.checksum_by_bits(b"123456789"), 0xCBF43926)
+        self.assertEqual(crc.checksum(b"123456789"), 0xCBF43926)
+
+    def test_bytes_as_by_bits(self) -> None:
+        rng = random.Random(1)
+        for length in list(range(70)) + [255, 256, 1000]:
+            data = random_bytes(rng, length)
+            state = rng.getrandbits(32)
+            self.assertEqual(crc.after_bytes(state, data), crc.after_bytes_by_bits(state, data))
+            self.assertEqual(crc.checksum(data), crc.checksum_by_bits(data))
+
+    def test_zeros_as_by_bits(self) -> None:
+        rng = random.Random(2)
+        for count in list(range(140)) + [1000, 4095, 4096, 4097]:
+            state = rng.getrandbits(32)
+            self.assertEqual(
+                crc.after_zeros(state, count), crc.after_bytes_by_bits(state, bytes(count))
+            )
+
+    def test_words_as_by_bits(self) -> None:
+        rng = random.Random(3)
+        for count in list(range(70)) + [255, 256, 1023, 1025]:
+            state, word = rng.getrandbits(32), rng.getrandbits(32)
+            data = word.to_bytes(4, "little") * count
+            self.assertEqual(
+                crc.after_words(state, word, count), crc.after_bytes_by_bits(state, data)
+            )
+
+    def test_long_runs_add_up(self) -> None:
+        rng = random.Random(4)
+        for _ in range(100):
+            state, word = rng.getrandbits(32), rng.getrandbits(32)
+            a, b = rng.getrandbits(46), rng.getrandbits(46)
+            zeros = crc.after_zeros(crc.after_zeros(state, a), b)
+            self.assertEqual(crc.after_zeros(state, a + b), zeros)
+            words = crc.after_words(crc.after_words(state, word, a), word, b)
+            self.assertEqual(crc.after_words(state, word, a + b), words)
+            self.assertEqual(crc.after_words(state, 0, a), crc.after_zeros(state, 4 * a))
+
+    def test_a_long_run_as_bytes(self) -> None:
+        data = b"\x01\x02\x03\x04" * 500_000
+        self.assertEqual(crc.after_words(7, 0x04030201, 500_000), crc.after_bytes(7, data))
+        self.assertEqual(crc.after_zeros(7, 2_000_001), crc.after_bytes(7, bytes(2_000_001)))
+
+
+class TestFields(unittest.TestCase):
+    def test_read(self) -> None:
+        data = b"\x01\x02\x03\x04\x05"
+        self.assertEqual(fields.read(data, 0, 2), 0x0201)
+        self.assertEqual(fields.read(data, 1, 4), 0x05040302)
+        self.assertEqual(fields.read(data, 3, 4), 0x0504)
+        self.assertEqual(fields.read(data, 2**64 - 1, 8), 0)
+
+    def test_write(self) -> None:
+        data = bytes(5)
+        self.assertEqual(fields.written(data, 1, 2, 0x30201), b"\0\x01\x02\0\0")
+        self.assertEqual(fields.written(data, 2, 4, 1), data)
+        self.assertEqual(fields.written(data, 2**64 - 1, 2, 1), data)
+
+
+class TestSparseExamples(unittest.TestCase):
+    def test_p2(self) -> None:
+        self.assertEqual(len(P2), 56)
+        self.assertEqual(build.two_chunks(), P2)
+        self.assertEqual(sparse.judge(P2, 12), Accepted(1, 2))
+        self.assertEqual(store.store(P2, OLD), (Accepted(1, 2), b"\xFF" * 4 + OLD[4:]))
+
+    def test_p3(self) -> None:
+        self.assertEqual(sparse.judge(P2, 11), Refusal(6, 0))
+
+    def test_p4_p5(self) -> None:
+        self.assertEqual(sparse.judge(build.with_bytes(P2, 16, b"\x04"), 16), Refusal(9, 56))
+        self.assertEqual(sparse.judge(build.with_bytes(P2, 16, b"\x02"), 12), Refusal(9, 44))
+
+    def test_p6(self) -> None:
+        self.assertEqual(sparse.judge(P2 + b"\0", 12), Refusal(10, 56))
+
+    def test_p7(self) -> None:
+        image = build.with_bytes(P2, 44, b"\xC5\xCA")
+        self.assertEqual(sparse.judge(image, 12), Accepted(1, 2))
+        self.assertEqual(store.store(image, OLD), store.store(P2, OLD))
+
+    def test_p8(self) -> None:
+        image = build.with_bytes(P2, 24, bytes(4))
+        self.assertEqual(sparse.judge(image, 12), Refusal(11, 24))
+
+
+class TestSparseRefusals(unittest.TestCase):
+    """Each number with its place, and the order of the tests."""
+
+    def check(self, image: bytes, number: int, place: int, length: int = 12) -> None:
+        verdict = Refusal(number, place)
+        self.assertEqual(sparse.judge(image, length), verdict)
+        partition = bytes(range(length))
+        self.assertEqual(store.store(image, partition), (verdict, partition))
+        limited = store.store_limited(image, partition, 1)
+        self.assertEqual(limited, store.Stored(verdict, 0, partition))
+
+    def test_header(self) -> None:
+        self.check(b"", 1, 0)
+        self.check(P2[:27], 1, 0)
+        self.check(build.two_chunks(magic=0xED26FF3B), 2, 0)
+        for major in (0, 2, 0x101):
+            self.check(build.two_chunks(major=major), 3, 0)
+        for size in (0, 24, 27, 29, 30, 60, 65532, 65535):
+            self.check(build.with_bytes(P2, 8, size.to_bytes(2, "little")), 4, 0)
+        for size in (0, 8, 11, 13, 14):
+            self.check(build.two_chunks(chunk_header_size=size), 4, 0)
+        for size in (0, 2, 5, 6, 65540, 65537, 2**32 - 4):
+            self.check(build.with_bytes(P2, 12, size.to_bytes(4, "little")), 5, 0)
+
+    def test_header_is_passed_over(self) -> None:
+        for file_size, chunk_size in ((32, 12), (28, 16), (400, 40), (65532, 12)):
+            image = build.two_chunks(file_header_size=file_size, chunk_header_size=chunk_size)
+            self.assertEqual(sparse.judge(image, 12), Accepted(1, 2))
+            self.assertEqual(store.store(image, OLD)[1], b"\xFF" * 4 + OLD[4:])
+        self.assertEqual(sparse.judge(build.two_chunks(minor=65535), 12), Accepted(1, 2))
+
+    def test_bytes_left(self) -> None:
+        for length in range(28, 40):
+            self.check(P2[:length], 7, 28)
+        for length in range(40, 44):
+            self.check(P2[:length], 7, 28)
+        for length in range(44, 56):
+            self.check(P2[:length], 7, 44)
+        self.check(build.two_chunks(total_chunks=3), 7, 56)
+        wide = build.two_chunks(chunk_header_size=16)
+        self.check(wide[:28 + 15], 7, 28)
+        self.check(wide[:48 + 15], 7, 48)
+        self.check(build.with_bytes(wide, 56, b"\x0C")[:48 + 15], 7, 48)
+
+    def test_total_size(self) -> None:
+        for size in (0, 12, 15, 17, 20):
+            self.check(build.with_bytes(P2, 36, bytes([size])), 8, 28)
+        for size in (0, 8, 11, 13, 16):
+            self.check(build.with_bytes(P2, 52, bytes([size])), 8, 44)
+        other = build.two_chunks(second_type=0xCAC5)
+        for size in (0, 8, 11, 13, 14):
+            self.check(build.with_bytes(other, 52, bytes([size])), 8, 44)
+        self.check(build.with_bytes(other, 52, bytes([16])), 7, 44)
+        wide = build.two_chunks(second_type=0xCAC5, chunk_header_size=16)
+        self.check(build.with_bytes(wide, 56, b"\x0C"), 8, 48)
+        raw = build.sparse_image(4, [build.raw(b"abcdefgh", 4)])
+        for size in (12, 16, 19, 21, 24):
+            self.check(build.with_bytes(raw, 36, bytes([size])), 8, 28)
+
+    def test_sum(self) -> None:
+        self.check(build.two_chunks(total_blocks=2), 9, 44)
+        self.check(build.two_chunks(total_blocks=0), 9, 28)
+        self.check(build.two_chunks(total_blocks=4), 9, 56, 16)
+        self.check(build.sparse_image(4, [], total_blocks=1), 9, 28)
+
+    def test_end(self) -> None:
+        self.check(P2 + b"\0", 10, 56)
+        self.check(build.two_chunks(total_chunks=0, total_blocks=0), 10, 28)
+        for checksum in (0, 1, 0xFFFFFFFE):
+            self.check(build.two_chunks(checksum=checksum), 11, 24)
+
+    def test_order_of_header_tests(self) -> None:
+        image = bytearray(P2)
+        image[12] = 5
+        self.check(bytes(image), 5, 0, 0)
+        image[10] = 13
+        self.check(bytes(image), 4, 0, 0)
+        image[4] = 2
+        self.check(bytes(image), 3, 0, 0)
+        image[0] = 0
+        self.check(bytes(image), 2, 0, 0)
+        self.check(bytes(image[:27]), 1, 0, 0)
+        self.check(build.with_bytes(P2, 28, b"\xC1"), 6, 0, 11)
+
+    def test_order_of_chunk_tests(self) -> None:
+        short_and_wrong = build.with_bytes(P2, 52, b"\x10")
+        self.check(short_and_wrong[:55], 7, 44)
+        self.check(short_and_wrong, 8, 44)
+        far = build.two_chunks(second_type=0xCAC5, total_blocks=2)
+        self.check(build.with_bytes(far, 52, b"\x10"), 7, 44)
+        self.check(build.with_bytes(far, 52, b"\x0E"), 8, 44)
+        self.check(build.two_chunks(total_blocks=0, total_chunks=3), 9, 28)
+        self.check(build.with_bytes(far, 36, b"\x0C"), 8, 28)
+
+    def test_order_at_the_end(self) -> None:
+        self.check(build.two_chunks(total_blocks=4, checksum=0) + b"\0", 9, 56, 16)
+        self.check(build.two_chunks(checksum=0) + b"\0", 10, 56)
+
+    def test_empty(self) -> None:
+        self.assertEqual(sparse.judge(build.sparse_image(4, []), 0), Accepted(0, 0))
+        self.check(build.sparse_image(4, [], checksum=1), 11, 24)
+        plans = [build.raw(b"", 4), build.fill(b"abcd", 0), build.skip(0), build.unknown(7, 0)]
+        self.assertEqual(sparse.judge(build.sparse_image(4, plans), 0), Accepted(0, 0))
+
+
+class TestWideNumbers(unittest.TestCase):
+    """The mistake "Multiplying blocks by block size in 32 bits": none of these may wrap."""
+
+    def test_partition_too_short(self) -> None:
+        for blocks, size in ((0x40000000, 4), (0x10000, 65536), (0x40000001, 4)):
+            image = build.sparse_image(size, [build.skip(blocks)])
+            self.assertEqual(sparse.judge(image, 4096), Refusal(6, 0))
+            self.assertEqual(sparse.judge(image, blocks * size - 1), Refusal(6, 0))
+            self.assertEqual(sparse.judge(image, blocks * size), Accepted(0, blocks))
+
+    def test_raw_product(self) -> None:
+        for blocks, size, stated in (
+            (0x40000000, 4, 12),
+            (0x40000001, 4, 16),
+            (0x10000, 65536, 12),
+            (0x3FFFFFFF, 4, 8),
+        ):
+            plan = build.ChunkPlan(0xCAC1, blocks, b"abcd", stated)
+            image = build.sparse_image(size, [plan], total_blocks=0xFFFFFFFF, checksum=0)
+            self.assertEqual(sparse.judge(image, 2**64 - 1), Refusal(8, 28))
+
+    def test_raw_longer_than_the_image(self) -> None:
+        plan = build.ChunkPlan(0xCAC1, 0x3FFFFFFC, b"abcd", 0xFFFFFFFC)
+        image = build.sparse_image(4, [plan], checksum=0)
+        self.assertEqual(sparse.judge(image, 2**64 - 1), Refusal(7, 28))
+
+    def test_sum_of_blocks(self) -> None:
+        plans = [build.skip(3), build.skip(0xFFFFFFFF)]
+        image = build.sparse_image(4, plans, total_blocks=5, checksum=0)
+        self.assertEqual(sparse.judge(image, 20), Refusal(9, 40))
+
+    def test_largest(self) -> None:
+        image = build.sparse_image(65536, [build.fill(b"wxyz", 0xFFFFFFFF)])
+        self.assertEqual(sparse.judge(image, 2**48), Accepted(0xFFFFFFFF, 0))
+
+
+class TestMistakes(unittest.TestCase):
+    """The section "Mistakes we have met", but for the multiplication above."""
+
+    def test_skipped_blocks_keep_their_bytes(self) -> None:
+        plans = [build.skip(1), build.raw(b"abcd", 4), build.unknown(9, 1, b"zzzz")]
+        image = build.sparse_image(4, plans)
+        self.assertEqual(store.store(image, OLD), (Accepted(1, 2), OLD[:4] + b"abcd" + OLD[8:]))
+
+    def test_wrong_checksum_stores_nothing(self) -> None:
+        image = build.with_bytes(P2, 24, bytes(4))
+        self.assertEqual(store.store(image, OLD), (Refusal(11, 24), OLD))
+
+    def test_fault_in_a_later_chunk_stores_nothing(self) -> None:
+        for image in (P2[:50], P2 + b"\0", build.two_chunks(total_blocks=2)):
+            self.assertEqual(store.store(image, OLD)[1], OLD)
+
+    def test_modified_keeps_unbootable(self) -> None:
+        a, b = Slot(True, False, True, 3), Slot(True, True, False, 0)
+        record = Record((a, b, UNUSED, UNUSED), 0)
+        answer, after = slots.modified(record, 1)
+        self.assertEqual(answer, slots.Done())
+        self.assertEqual(after.slots[1], Slot(True, True, False, 3))
+        self.assertEqual(slots.set_active(record, 1)[1].slots[1], Slot(True, False, False, 3))
+
+    def test_successful_slot_keeps_its_tries(self) -> None:
+        for tries in range(8):
+            record = Record((Slot(True, False, True, tries),) + (UNUSED,) * 3, 0)
+            self.assertEqual(slots.start(record), (slots.Boots(0), record))
+        a, b = Slot(True, False, False, 0), Slot(True, False, True, 2)
+        answer, after = slots.start(Record((a, b, UNUSED, UNUSED), 0))
+        self.assertEqual((answer, after.slots[1].tries), (slots.Boots(1), 2))
+
+
+class TestStore(unittest.TestCase):
+    def test_limits(self) -> None:
+        plans = [build.fill(b"wxyz", 2), build.skip(1), build.raw(b"abcdefgh", 4)]
+        image = build.sparse_image(4, plans)
+        old = bytes(range(24))
+        new = [b"wxyz", b"wxyz", old[8:12], b"abcd", b"efgh", old[20:]]
+        for limit, last in enumerate((0, 1, 2, 4, 5)):
+            stored = store.store_limited(image, old, limit)
+            expected = b"".join(new[:last]) + old[4 * last:]
+            self.assertEqual(stored, store.Stored(Accepted(4, 1), limit, expected))
+        for limit in (4, 5, 2**64):
+            stored = store.store_limited(image, old, limit)
+            self.assertEqual(stored, store.Stored(Accepted(4, 1), 4, b"".join(new)))
+        torn = store.cut_state(image, old, 2, b"????")
+        self.assertEqual(torn, b"wxyzwxyz" + old[8:12] + b"????" + old[16:])
+        self.assertEqual(store.cut_state(image, old, 4, b"????"), b"".join(new))
+
+    def test_store_gives_each_byte(self) -> None:
+        rng = random.Random(5)
+        for _ in range(200):
+            image = random_image(rng)
+            partition = random_bytes(rng, rng.randrange(100))
+            verdict, after = store.store(image, partition)
+            self.assertEqual(verdict, sparse.judge(image, len(partition)))
+            self.assertEqual(after, store.last_given([image], partition))
+
+
+class TestDemand3(unittest.TestCase):
+    """A list, any cuts, then a full run: as one full run on the original."""
+
+    def random_cuts(self, rng: random.Random, images: Sequence[bytes]) -> List[store.Cut]:
+        cuts = []
+        for _ in range(rng.randrange(6)):
+            torn = random_bytes(rng, rng.choice([0, 5, 12]))
+            cuts.append(store.Cut(rng.randrange(len(images) + 1), rng.randrange(10), torn))
+        return cuts
+
+    def check_moment(self, images: Sequence[bytes], original: bytes, moment: bytes) -> None:
+        """Demand 3: "bytes that no accepted image in the list stores are the original ones"."""
+        given = [store.bytes_given(image, len(original)) for image in images]
+        for at, byte in enumerate(original):
+            if all(image_bytes[at] is None for image_bytes in given):
+                self.assertEqual(moment[at], byte)
+
+    def test_random_lists(self) -> None:
+        rng = random.Random(6)
+        for _ in range(150):
+            images = [random_image(rng) for _ in range(rng.randrange(5))]
+            original = random_bytes(rng, rng.randrange(90))
+            cuts = self.random_cuts(rng, images)
+            moments = store.cut_runs(images, original, cuts)
+            verdicts, left = store.full_run(images, original)
+            last = moments[-1] if moments else original
+            self.assertEqual(store.full_run(images, last), (verdicts, left))
+            self.assertEqual(left, store.last_given(images, original))
+            for moment in moments + [left]:
+                self.check_moment(images, original, moment)
+
+    def test_every_moment_of_one_list(self) -> None:
+        first = build.sparse_image(4, [build.fill(b"wxyz", 2), build.skip(1)])
+        second = build.sparse_image(4, [build.skip(1), build.raw(b"abcd", 4)])
+        images = [first, P2 + b"\0", second]
+        original = bytes(range(20, 36))
+        full = store.full_run(images, original)
+        self.assertEqual(full[1], b"wxyzabcd" + original[8:])
+        torn = (b"", b"??", b"????")
+        cuts = [store.Cut(i, n, t) for i in range(4) for n in range(3) for t in torn]
+        for one in cuts:
+            for other in cuts:
+                last = store.cut_runs(images, original, [one, other])[-1]
+                self.check_moment(images, original, last)
+                self.assertEqual(store.full_run(images, last), full)
+
+
+class TestWriter(unittest.TestCase):
+    def test_p1(self) -> None:
+        self.assertEqual(writer.write(b"", 4096, bytes(28)), writer.Written(0, 28, P1))
+        self.assertEqual(len(P1), 28)
+
+    def test_p9(self) -> None:
+        flat = b"\xFF" * 4 + bytes(12)
+        image = bytes.fromhex(
+            "3AFF26ED 0100 0000 1C00 0C00 08000000 02000000 02000000 FFFFFFFF"
+            "C1CA 0000 01000000 14000000 FFFFFFFF 00000000"
+            "C2CA 0000 01000000 10000000 00000000"
+        )
+        self.assertEqual(len(image), 64)
+        self.assertEqual(writer.write(flat, 8, bytes(64)), writer.Written(0, 64, image))
+        longer = writer.write(flat, 8, bytes(64) + b"kept")
+        self.assertEqual(longer, writer.Written(0, 64, image + b"kept"))
+        short = b"\x07" * 63
+        self.assertEqual(writer.write(flat, 8, short), writer.Written(12, 0, short))
+
+    def test_refusals(self) -> None:
+        for block_size in (0, 2, 5, 65540):
+            self.assertEqual(writer.write(b"abc", block_size, b""), writer.Written(5, 0, b""))
+        self.assertEqual(writer.write(b"abc", 4, b"x"), writer.Written(13, 0, b"x"))
+        self.assertEqual(writer.write(b"abcd", 8, b"x"), writer.Written(13, 0, b"x"))
+        self.assertEqual(writer.write(b"abcd", 4, b"x"), writer.Written(12, 0, b"x"))
+        self.assertEqual(writer.flat_number(2_147_483_648, 4), 0)
+        self.assertEqual(writer.flat_number(2_147_483_652, 4), 13)
+
+    def test_runs(self) -> None:
+        flat = b"aaaaaaaa" * 2 + b"bbbbbbbb" + b"abcdefgh" * 2 + b"bbbbbbbb"
+        kinds = [(chunk.kind, chunk.blocks) for chunk in sparse.chunks_of(writer.image_of(flat, 8))]
+        self.assertEqual(
+            kinds, [("fill", 2), ("fill", 1), ("raw", 2), ("fill", 1)]
+        )
+        one_word = writer.image_of(b"abcdefghefgh", 4)
+        kinds = [(chunk.kind, chunk.blocks) for chunk in sparse.chunks_of(one_word)]
+        self.assertEqual(kinds, [("fill", 1), ("fill", 2)])
+
+    def test_round_trip(self) -> None:
+        rng = random.Random(7)
+        for _ in range(200):
+            block_size = rng.choice([4, 8, 16])
+            flat = b"".join(
+                rng.choice([bytes(block_size), b"\x05" * block_size, random_bytes(rng, block_size)])
+                for _ in range(rng.randrange(12))
+            )
+            written = writer.write(flat, block_size, bytes(600))
+            image = written.output[:written.length]
+            partition = random_bytes(rng, len(flat) + rng.randrange(9))
+            verdict, after = store.store(image, partition)
+            self.assertEqual(verdict, Accepted(len(flat) // block_size, 0))
+            self.assertEqual(after, flat + partition[len(flat):])
+
+
+class TestBoot(unittest.TestCase):
+    def check(self, image: bytes, number: int) -> None:
+        self.assertEqual(boot.locate(image), boot.Refusal(number))
+
+    def positions(self, image: bytes) -> List[int]:
+        located = boot.locate(image)
+        assert isinstance(located, boot.Located)
+        return [section.position for section in located.sections]
+
+    def test_p10(self) -> None:
+        image = build.boot_image(3, 12289, kernel=4097, ramdisk=1)
+        sections = [boot.Section("kernel", 4096, 4097), boot.Section("ramdisk", 12288, 1)]
+        self.assertEqual(boot.locate(image), boot.Located(3, sections))
+        self.check(image[:12288], 26)
+
+    def test_p11(self) -> None:
+        image = build.boot_image(2, 6145, page=2048, kernel=2048, ramdisk=1, dtb=1)
+        sections = [
+            boot.Section("kernel", 2048, 2048),
+            boot.Section("ramdisk", 4096, 1),
+            boot.Section("second", 6144, 0),
+            boot.Section("recovery", 6144, 0),
+            boot.Section("dtb", 6144, 1),
+        ]
+        self.assertEqual(boot.locate(image), boot.Located(2, sections))
+        self.check(image[:6144], 26)
+
+    def test_lengths(self) -> None:
+        for version, length in enumerate((1632, 1648, 1660, 1580, 1584)):
+            image = build.boot_image(version, length, filler=0xEE)
+            self.assertEqual(len(build.boot_header(build.BootPlan(version))), length)
+            self.assertIsInstance(boot.locate(image), boot.Located)
+            self.check(image[:length - 1], 21)
+            self.check(image[:44], 21)
+            self.check(image[:43], 21)
+        self.check(b"", 21)
+
+    def test_magic_and_version(self) -> None:
+        for at in range(8):
+            self.check(build.with_bytes(build.boot_image(0, 1632), at, b"\xFF"), 22)
+        for version in (5, 0x100, 0x10000, 0xFFFFFFFF):
+            image = build.with_bytes(build.boot_image(0, 1632), 40, version.to_bytes(4, "little"))
+            self.check(image, 23)
+
+    def test_header_size(self) -> None:
+        for version in range(1, 5):
+            for size in (0, 1632, 1661, 0x10000 + build.HEADER_LENGTHS[version]):
+                self.check(build.boot_image(version, 2000, header_size=size), 24)
+
+    def test_page_size(self) -> None:
+        for version in range(3):
+            for page in (0, 1, 1024, 3072, 6144, 32768, 2**31, 2**32 - 1):
+                self.check(build.boot_image(version, 2000, page=page), 25)
+            for page in (2048, 4096, 8192, 16384):
+                image = build.boot_image(version, 2000, page=page)
+                self.assertEqual(self.positions(image), [page] * (version + 3))
+
+    def test_recovery_offset(self) -> None:
+        image = build.boot_image(1, 10000, kernel=5, recovery=7, recovery_offset=4096)
+        self.assertEqual(self.positions(image), [2048, 4096, 4096, 4096])
+        for at in range(1636, 1644):
+            self.check(build.with_bytes(image, at, bytes([image[at] ^ 1])), 27)
+        unread = build.boot_image(1, 10000, kernel=5, recovery_offset=9)
+        self.assertIsInstance(boot.locate(unread), boot.Located)
+
+    def test_wide_positions(self) -> None:
+        sizes = dict(kernel=2**32 - 1, ramdisk=2**32 - 1, second=2**32 - 1)
+        at = 2048 + 3 * 2**32
+        self.check(build.boot_image(2, 9000, recovery=1, recovery_offset=at, **sizes), 26)
+        low = at % 2**32
+        self.check(build.boot_image(2, 9000, recovery=1, recovery_offset=low, **sizes), 27)
+        self.check(build.boot_image(3, 9000, kernel=2**32 - 4096), 26)
+
+    def test_position_past_64_bits(self) -> None:
+        """28 by its rule alone: the sizes of a header, 32 bits each, cannot reach it."""
+        sections = boot.layout(4096, [("kernel", 2**64 - 4096), ("ramdisk", 0)])
+        self.assertEqual(boot.section_number(sections, 0, 0), 28)
+        fits = boot.layout(4096, [("kernel", 2**64 - 8192), ("ramdisk", 0)])
+        self.assertEqual(boot.section_number(fits, 0, 0), 26)
+        largest = boot.layout(16384, [(name, 2**32 - 1) for name in boot.SECTION_NAMES])
+        self.assertLess(largest[-1].position, 2**35)
+
+    def test_order(self) -> None:
+        self.check(build.boot_image(4, 43, magic=b"android!"), 21)
+        wrong_version = build.with_bytes(build.boot_image(4, 44), 40, b"\x05")
+        self.check(build.with_bytes(wrong_version, 0, b"a"), 22)
+        self.check(wrong_version, 23)
+        self.check(build.boot_image(1, 1647, header_size=0), 21)
+        self.check(build.boot_image(1, 1648, header_size=0, page=0), 24)
+        self.check(build.boot_image(1, 1648, page=0, recovery=1), 25)
+        self.check(build.boot_image(1, 1648, kernel=1, recovery=1, recovery_offset=1), 27)
+        self.check(build.boot_image(1, 1648, kernel=1), 26)
+
+
+UNUSED = Slot(False, False, False, 0)
+
+
+class TestSlots(unittest.TestCase):
+    def two(self, a: Slot, b: Slot, current: int = 0) -> Record:
+        return Record((a, b, UNUSED, UNUSED), current)
+
+    def test_p12_p13(self) -> None:
+        a, b = Slot(True, False, False, 0), Slot(True, False, True, 3)
+        marked = a._replace(unbootable=True)
+        self.assertEqual(
+            slots.start(self.two(a, b)), (slots.Boots(1), self.two(marked, b, 1))
+        )
+        weak = b._replace(successful=False)
+        self.assertEqual(
+            slots.start(self.two(a, weak)), (slots.Recovery(), self.two(marked, weak))
+        )
+
+    def test_p14(self) -> None:
+        a = Slot(True, False, False, 1)
+        spent = a._replace(tries=0)
+        self.assertEqual(
+            slots.start(self.two(a, UNUSED)), (slots.Boots(0), self.two(spent, UNUSED))
+        )
+
+    def test_fresh(self) -> None:
+        for number in range(1, 5):
+            answer, record = slots.fresh(number)
+            self.assertEqual(answer, slots.Done())
+            self.assertEqual([slot.used for slot in record.slots], [i < number for i in range(4)])
+            self.assertTrue(all(slot[1:] == (False, False, 3) for slot in record.slots))
+            self.assertEqual(record.current, 0)
+            self.assertTrue(slots.is_valid(record))
+        for number in (0, 5, 255):
+            self.assertEqual(slots.fresh(number), (slots.Refusal(31), Record((UNUSED,) * 4, 0)))
+
+    def test_invalid(self) -> None:
+        good = Slot(True, False, False, 3)
+        for record in (
+            self.two(good, good, 2),
+            self.two(good, good, 4),
+            self.two(good, good, 255),
+            self.two(good._replace(tries=8), good),
+            self.two(good, good._replace(tries=8)),
+            self.two(good, Slot(True, True, True, 3)),
+        ):
+            refused = (slots.Refusal(31), record)
+            self.assertEqual(slots.start(record), refused)
+            self.assertEqual(slots.confirm(record), refused)
+            for slot in (0, 1, 2, 4):
+                self.assertEqual(slots.set_active(record, slot), refused)
+                self.assertEqual(slots.modified(record, slot), refused)
+
+    def test_unused_places_are_ignored_and_kept(self) -> None:
+        good, odd = Slot(True, False, False, 3), Slot(False, True, True, 200)
+        record = Record((odd, good, odd, odd), 1)
+        answer, after = slots.start(record)
+        self.assertEqual(answer, slots.Boots(1))
+        self.assertEqual(after, Record((odd, good._replace(tries=2), odd, odd), 1))
+        strong = Slot(False, False, True, 3)
+        empty = Record((strong, good._replace(tries=0), strong, strong), 1)
+        self.assertEqual(slots.start(empty)[0], slots.Recovery())
+
+    def test_unbootable_slot_never_starts(self) -> None:
+        broken, strong = Slot(True, True, False, 3), Slot(True, False, True, 0)
+        self.assertEqual(
+            slots.start(self.two(broken, UNUSED)), (slots.Recovery(), self.two(broken, UNUSED))
+        )
+        self.assertEqual(
+            slots.start(self.two(broken, strong)), (slots.Boots(1), self.two(broken, strong, 1))
+        )
+
+    def test_search_is_in_letter_order(self) -> None:
+        tired, strong = Slot(True, False, False, 0), Slot(True, False, True, 0)
+        record = Record((strong, strong, tired, strong), 2)
+        self.assertEqual(slots.start(record)[0], slots.Boots(0))
+        record = Record((tired, strong, tired, strong), 2)
+        self.assertEqual(slots.start(record)[0], slots.Boots(1))
+        record = Record((tired, tired, tired, strong), 2)
+        self.assertEqual(slots.start(record)[0], slots.Boots(3))
+
+    def test_slot_refusals(self) -> None:
+        good = Slot(True, False, False, 3)
+        record = self.two(good, good)
+        for slot in (2, 3, 4, 255):
+            self.assertEqual(slots.set_active(record, slot), (slots.Refusal(32), record))
+            self.assertEqual(slots.modified(record, slot), (slots.Refusal(32), record))
+
+    def test_confirm(self) -> None:
+        a, b = Slot(True, False, False, 2), Slot(True, True, False, 2)
+        sure = a._replace(successful=True)
+        self.assertEqual(slots.confirm(self.two(a, b)), (slots.Done(), self.two(sure, b)))
+        bad = self.two(a, b, 1)
+        self.assertEqual(slots.confirm(bad), (slots.Refusal(33), bad))
+
+
+class TestLister(unittest.TestCase):
+    def test_p2(self) -> None:
+        self.assertEqual(
+            lister.listing(P2),
+            "block 4 total 3 chunks 2\n0 fill 1\n1 skip 2\nok written 1 skipped 2\n",
+        )
+
+    def test_others(self) -> None:
+        self.assertEqual(lister.listing(P2 + b"\0"), "refused 10 at 56\n")
+        self.assertEqual(lister.listing(bytes(65536)), "refused 2 at 0\n")
+        self.assertEqual(lister.listing(bytes(65537)), "too long\n")
+        big = build.sparse_image(65536, [build.skip(17)])
+        self.assertEqual(lister.listing(big), "refused 6 at 0\n")
+        plans = [build.raw(b"", 4), build.raw(b"abcdefgh", 4), build.unknown(1, 3)]
+        self.assertEqual(
+            lister.listing(build.sparse_image(4, plans)),
+            "block 4 total 5 chunks 3\n0 raw 0\n0 raw 2\n2 skip 3\nok written 2 skipped 3\n",
+        )
+
+
+if __name__ == "__main__":
+    unittest.main()

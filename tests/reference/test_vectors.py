@@ -1,0 +1,137 @@
+"""Reads the vectors' files as their format says and works the lines out anew."""
+
+import os
+import struct
+import tempfile
+import unittest
+from typing import Callable, Dict, Iterator, List, Tuple
+
+import cases_boot
+import cases_common
+import cases_slots
+import crc
+import fields
+import sparse
+import vectors
+from slots import Record, Slot
+
+LARGEST_IMAGE = 65536
+LARGEST_OUTPUT = 400_000
+
+Lines = Iterator[Tuple[int, ...]]
+
+
+def crc_lines(data: bytes) -> Lines:
+    at = 0
+    while at < len(data):
+        kind, start, n, word, length = struct.unpack_from("<IIQII", data, at)
+        part = data[at + 24:at + 24 + length]
+        at += 24 + length
+        if kind == 0:
+            yield crc.after_bytes_by_bits(start, part), crc.checksum_by_bits(part)
+        elif kind == 1:
+            yield (crc.after_zeros(start, n),)
+        else:
+            yield (crc.after_words(start, word, n),)
+
+
+def field_lines(data: bytes) -> Lines:
+    at = 0
+    while at < len(data):
+        place, value, length = struct.unpack_from("<QQI", data, at)
+        part = data[at + 20:at + 20 + length]
+        at += 20 + length
+        reads = tuple(fields.read(part, place, width) for width in (2, 4, 8))
+        writes = tuple(fields.written(part, place, width, value) for width in (2, 4, 8))
+        yield reads + tuple(crc.checksum_by_bits(after) for after in writes)
+
+
+def slot_lines(data: bytes) -> Lines:
+    for at in range(0, len(data), 19):
+        numbers = data[at + 2:at + 19]
+        places = [numbers[i:i + 4] for i in range(0, 16, 4)]
+        a, b, c, d = (Slot(p[0] == 1, p[1] == 1, p[2] == 1, p[3]) for p in places)
+        record = Record((a, b, c, d), numbers[16])
+        yield cases_slots.values(cases_slots.Case(data[at], data[at + 1], record))
+
+
+def slot_sum_lines(data: bytes) -> Lines:
+    lines = list(slot_lines(data))
+    for at in range(0, len(lines), 64):
+        yield (crc.checksum(bytes(value for line in lines[at:at + 64] for value in line)),)
+
+
+def boot_lines(data: bytes) -> Lines:
+    at = 0
+    while at < len(data):
+        image, at = cases_common.image_from_patches(data, at)
+        assert len(image) <= LARGEST_IMAGE
+        yield cases_boot.values(image)
+
+
+def sparse_lines(data: bytes) -> Lines:
+    at = 0
+    while at < len(data):
+        (partition_length,) = struct.unpack_from("<Q", data, at)
+        image, at = cases_common.image_from_patches(data, at + 8)
+        assert len(image) <= LARGEST_IMAGE
+        verdict = sparse.judge(image, partition_length)
+        if isinstance(verdict, sparse.Refusal):
+            yield verdict.number, verdict.place, 0, 0
+        else:
+            yield 0, 0, verdict.written, verdict.skipped
+
+
+READERS: Dict[str, Callable[[bytes], Lines]] = {
+    "crc": crc_lines,
+    "fields": field_lines,
+    "slots": slot_lines,
+    "slotsum": slot_sum_lines,
+    "boot": boot_lines,
+    "sparse": sparse_lines,
+}
+
+
+class TestVectors(unittest.TestCase):
+    names: List[str]
+    made: Dict[str, bytes]
+
+    @classmethod
+    def setUpClass(cls) -> None:
+        cls.names = [name for name, _ in vectors.GROUPS]
+        cls.made = vectors.files(cls.names)
+
+    def test_output_follows_from_the_files(self) -> None:
+        lines: List[str] = []
+        for name in self.names:
+            data = self.made[os.path.join("data", name + ".bin")]
+            lines += [vectors.line(name, i, v) for i, v in enumerate(READERS[name](data))]
+        self.assertEqual("".join(lines).encode("ascii"), self.made["stdout"])
+
+    def test_sizes(self) -> None:
+        self.assertLess(len(self.made["stdout"]), LARGEST_OUTPUT)
+        for data in self.made.values():
+            self.assertLessEqual(len(data), vectors.LARGEST_FILE)
+
+    def test_patches_give_the_image(self) -> None:
+        images = (b"", bytes(9), b"\x01", bytes(8) + b"\x01" + bytes(9) + b"\x02\0")
+        for image in images + (b"\x01" + bytes(7) + b"\x02", bytes(3) + b"\x01" * 30):
+            encoded = cases_common.patched_image(image)
+            decoded = cases_common.image_from_patches(encoded, 0)
+            self.assertEqual(decoded, (image, len(encoded)))
+
+    def test_check(self) -> None:
+        with tempfile.TemporaryDirectory() as folder:
+            vectors.write(self.made, folder)
+            self.assertEqual(vectors.faults(self.made, folder), [])
+            os.remove(os.path.join(folder, "data", "boot.bin"))
+            with open(os.path.join(folder, "data", "other.bin"), "wb"):
+                pass
+            with open(os.path.join(folder, "stdout"), "ab") as file:
+                file.write(b"\n")
+            found = ["missing: data/boot.bin", "differs: stdout", "extra: data/other.bin"]
+            self.assertEqual(vectors.faults(self.made, folder), found)
+
+
+if __name__ == "__main__":
+    unittest.main()

@@ -1,0 +1,172 @@
+"""Makes the inputs and the expected output of the gate's program.
+
+    python3 tests/reference/vectors.py OUTDIR           write OUTDIR/data/*.bin and OUTDIR/stdout
+    python3 tests/reference/vectors.py --check DIR      compare DIR with what would be written
+    ... --groups crc,boot                               only these groups
+
+The same bytes come out on every run: all choices come from a fixed seed.
+
+FORMAT
+
+Each group is one file, data/GROUP.bin, of at most 262,144 bytes: its cases,
+one directly after the other, up to the end of the file.  All numbers are
+unsigned, low byte first; u8, u32 and u64 have 1, 4 and 8 bytes.  Nothing is
+aligned.  The program takes the groups in the order of GROUPS below and prints
+for each case (for each block of cases in `slotsum`) one line:
+
+    GROUP INDEX VALUE VALUE ...
+
+INDEX counts the group's lines from 0.  All numbers are plain decimals without
+leading zeros, one space stands between neighbours, a newline ends each line.
+
+crc      case:  kind u32, start u32, n u64, word u32, len u32, len bytes
+                (len at most 4,096)
+         kind 0 (n and word are 0): the bytes go in from the state `start`.
+                values: STATE after them, CHECKSUM of the bytes alone
+         kind 1 (word and len are 0): n zero bytes go in, n at most 2^48.
+                values: STATE
+         kind 2 (len is 0): the word's 4 bytes, low byte first, go in n times,
+                n at most 2^46.
+                values: STATE
+         A state is the register before the final inversion; a checksum begins
+         at the state 4294967295 and is inverted at the end.
+
+fields   case:  at u64, value u64, len u32, len bytes (len at most 20)
+         values: the 2-, the 4- and the 8-byte number read at `at`, bytes past
+                the end counting as 0; then the checksums of the bytes after
+                the low 2, the low 4 and all 8 bytes of `value` were written at
+                `at`, each into the bytes as given.  A write that does not fit
+                whole changes nothing.
+
+slots    case:  operation u8, argument u8, record of 17 u8; 19 bytes in all
+         operation: 0 fresh (argument: number of slots; the record is ignored),
+                1 start, 2 set active (argument: slot), 3 modified (argument:
+                slot), 4 confirm; the argument of 1 and 4 is 0.
+         record: used, unbootable, successful (0 or 1 each) and tries, for a,
+                b, c and d in turn; then the current slot (0 for a).
+         values: NUMBER of the refusal or 0; KIND 0 done, 1 boots, 2 recovery,
+                3 refused; the started SLOT, 0 unless it boots; the 17 values
+                of the record after.
+
+slotsum  case:  as in `slots`.  One line for each block of 64 cases, the last
+                block being shorter when they do not come out even.
+         values: CHECKSUM of the block's values, 20 bytes a case: number, kind,
+                slot and record as in `slots`, a byte each.
+
+An image is kept as patches over zeros:
+
+image:   len u32 (at most 65,536), patches u32, then for each patch
+                offset u32, count u32, count bytes.
+         The image has len bytes: zeros, but for the bytes of each patch from
+         its offset on.  Patches lie inside the image and do not overlap.
+
+boot     case:  image
+         values: NUMBER of the refusal or 0; VERSION, 0 when refused; then for
+                kernel, ramdisk, second, recovery, dtb and signature PRESENT
+                POSITION SIZE: 1 and its place for a section of the version,
+                empty or not; 0 0 0 for all others and when refused.
+
+sparse   case:  partition length u64, image
+         values: NUMBER of the refusal or 0; its PLACE, or 0; blocks WRITTEN
+                and SKIPPED, both 0 when refused.
+"""
+
+import argparse
+import os
+import random
+import sys
+from typing import Callable, Dict, List, Sequence, Tuple
+
+import cases_boot
+import cases_crc
+import cases_fields
+import cases_slots
+import cases_sparse
+from cases_common import Group
+
+SEED = 20240901
+LARGEST_FILE = 262144
+
+GROUPS: Tuple[Tuple[str, Callable[[random.Random], Group]], ...] = (
+    ("crc", cases_crc.group),
+    ("fields", cases_fields.group),
+    ("slots", cases_slots.group),
+    ("slotsum", cases_slots.sum_group),
+    ("boot", cases_boot.group),
+    ("sparse", cases_sparse.group),
+)
+
+
+def line(name: str, index: int, values: Sequence[int]) -> str:
+    """One line of the expected output."""
+    return " ".join([name, str(index)] + [str(value) for value in values]) + "\n"
+
+
+def files(names: Sequence[str]) -> Dict[str, bytes]:
+    """Every file to write, by its path, for the groups of these names."""
+    made: Dict[str, bytes] = {}
+    output: List[str] = []
+    for name, make in GROUPS:
+        if name in names:
+            group = make(random.Random(SEED))
+            assert len(group.data) <= LARGEST_FILE, name
+            made[os.path.join("data", name + ".bin")] = group.data
+            output += [line(name, i, values) for i, values in enumerate(group.lines)]
+    made["stdout"] = "".join(output).encode("ascii")
+    return made
+
+
+def write(made: Dict[str, bytes], folder: str) -> None:
+    """Writes the files into a folder."""
+    os.makedirs(os.path.join(folder, "data"), exist_ok=True)
+    for path, data in made.items():
+        with open(os.path.join(folder, path), "wb") as file:
+            file.write(data)
+
+
+def faults(made: Dict[str, bytes], folder: str) -> List[str]:
+    """The files of a folder that differ, are missing, or are extra in its data."""
+    found = []
+    for path, data in made.items():
+        full = os.path.join(folder, path)
+        if not os.path.isfile(full):
+            found.append(f"missing: {path}")
+            continue
+        with open(full, "rb") as file:
+            if file.read() != data:
+                found.append(f"differs: {path}")
+    data_folder = os.path.join(folder, "data")
+    present = sorted(os.listdir(data_folder)) if os.path.isdir(data_folder) else []
+    paths = [os.path.join("data", name) for name in present]
+    return found + [f"extra: {path}" for path in paths if path not in made]
+
+
+def group_names(text: str) -> List[str]:
+    """The names in a list with commas; each must be a group."""
+    names = text.split(",")
+    known = [name for name, _ in GROUPS]
+    for name in names:
+        if name not in known:
+            raise argparse.ArgumentTypeError(f"no group {name}; there are {', '.join(known)}")
+    return names
+
+
+def main() -> int:
+    """Writes or checks; 1 when a file is not as it should be."""
+    parser = argparse.ArgumentParser(description="Makes or checks the gate's vectors.")
+    parser.add_argument("folder")
+    parser.add_argument("--check", action="store_true", help="compare and write nothing")
+    parser.add_argument("--groups", type=group_names, default=[name for name, _ in GROUPS])
+    options = parser.parse_args()
+    made = files(options.groups)
+    if not options.check:
+        write(made, options.folder)
+        return 0
+    found = faults(made, options.folder)
+    for fault in found:
+        print(fault)
+    return 1 if found else 0
+
+
+if __name__ == "__main__":
+    sys.exit(main())
