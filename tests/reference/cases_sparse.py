@@ -26,12 +26,16 @@ def encoded(case: Case) -> bytes:
     return u64(case.partition_length) + patched_image(case.image)
 
 
-def values(case: Case) -> Tuple[int, ...]:
+def verdict_values(verdict: sparse.Verdict) -> Tuple[int, ...]:
     """Number, place, written, skipped."""
-    verdict = sparse.judge(case.image, case.partition_length)
     if isinstance(verdict, sparse.Refusal):
         return verdict.number, verdict.place, 0, 0
     return 0, 0, verdict.written, verdict.skipped
+
+
+def values(case: Case) -> Tuple[int, ...]:
+    """The verdict's four values."""
+    return verdict_values(sparse.judge(case.image, case.partition_length))
 
 
 def example_cases() -> List[Case]:

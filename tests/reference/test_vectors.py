@@ -12,13 +12,26 @@ import cases_slots
 import crc
 import fields
 import sparse
+import store
 import vectors
+import writer
 from slots import Record, Slot
 
 LARGEST_IMAGE = 65536
+LARGEST_STORED_IMAGE = 8192
+LARGEST_PARTITION = 4096
+LARGEST_WRITTEN = 69632
+MOST_STORED_IMAGES = 4
+MOST_RUNS = 32
 LARGEST_OUTPUT = 400_000
 
 Lines = Iterator[Tuple[int, ...]]
+
+
+def verdict_values(verdict: sparse.Verdict) -> Tuple[int, ...]:
+    if isinstance(verdict, sparse.Refusal):
+        return verdict.number, verdict.place, 0, 0
+    return 0, 0, verdict.written, verdict.skipped
 
 
 def crc_lines(data: bytes) -> Lines:
@@ -75,11 +88,76 @@ def sparse_lines(data: bytes) -> Lines:
         (partition_length,) = struct.unpack_from("<Q", data, at)
         image, at = cases_common.image_from_patches(data, at + 8)
         assert len(image) <= LARGEST_IMAGE
-        verdict = sparse.judge(image, partition_length)
-        if isinstance(verdict, sparse.Refusal):
-            yield verdict.number, verdict.place, 0, 0
-        else:
-            yield 0, 0, verdict.written, verdict.skipped
+        yield verdict_values(sparse.judge(image, partition_length))
+
+
+def stored_images(data: bytes, at: int) -> Tuple[List[bytes], int]:
+    (count,) = struct.unpack_from("<I", data, at)
+    assert count <= MOST_STORED_IMAGES
+    images = []
+    at += 4
+    for _ in range(count):
+        image, at = cases_common.image_from_patches(data, at)
+        assert len(image) <= LARGEST_STORED_IMAGE
+        images.append(image)
+    return images, at
+
+
+def torn_run(
+    images: List[bytes], partition: bytes, data: bytes, at: int
+) -> Tuple[Tuple[int, ...], bytes, int]:
+    """The run's values, the partition after it and the position after it."""
+    cut, limit, offset, count = struct.unpack_from("<IQII", data, at)
+    torn = data[at + 20:at + 20 + count]
+    after = store.full_run(images[:cut], partition)[1]
+    answer: Tuple[int, ...] = (0, 0, 0)
+    if cut < len(images):
+        stored = store.store_limited(images[cut], after, limit)
+        answer = verdict_values(stored.verdict)[:2] + (stored.count,)
+        next_block = store.torn_block(images[cut], after, limit)
+        after = stored.partition
+        if count != 0:
+            assert next_block is not None and next_block.at <= offset
+            assert offset + count <= next_block.at + len(next_block.data)
+            after = after[:offset] + torn + after[offset + count:]
+    else:
+        assert (cut, limit, count) == (len(images), 0, 0)
+    return answer + (crc.checksum(after),), after, at + 20 + count
+
+
+def store_lines(data: bytes) -> Lines:
+    at = 0
+    while at < len(data):
+        length, seed = struct.unpack_from("<IB", data, at)
+        assert length <= LARGEST_PARTITION
+        images, at = stored_images(data, at + 5)
+        (runs,) = struct.unpack_from("<I", data, at)
+        assert runs <= MOST_RUNS
+        original = bytes((seed + 7 * i) % 256 for i in range(length))
+        partition = original
+        values: Tuple[int, ...] = ()
+        at += 4
+        for _ in range(runs):
+            answer, partition, at = torn_run(images, partition, data, at)
+            values += answer
+        verdicts, _ = store.full_run(images, partition)
+        for verdict in verdicts:
+            values += verdict_values(verdict)
+        yield values + (crc.checksum(store.last_given(images, original)),)
+
+
+def write_lines(data: bytes) -> Lines:
+    at = 0
+    while at < len(data):
+        block_size, length = struct.unpack_from("<II", data, at)
+        assert length <= LARGEST_WRITTEN
+        flat, at = cases_common.image_from_patches(data, at + 8)
+        assert len(flat) <= LARGEST_IMAGE
+        output = bytes((11 + 5 * i) % 256 for i in range(length))
+        number, image_length, after = writer.write(flat, block_size, output)
+        if number == 0:
+            assert store.store(after[:image_length], bytes(len(flat)))[1] == flat
+        yield number, image_length, crc.checksum(after)
 
 
 READERS: Dict[str, Callable[[bytes], Lines]] = {
@@ -89,6 +167,8 @@ READERS: Dict[str, Callable[[bytes], Lines]] = {
     "slotsum": slot_sum_lines,
     "boot": boot_lines,
     "sparse": sparse_lines,
+    "store": store_lines,
+    "write": write_lines,
 }
 
 
@@ -110,8 +190,9 @@ class TestVectors(unittest.TestCase):
 
     def test_sizes(self) -> None:
         self.assertLess(len(self.made["stdout"]), LARGEST_OUTPUT)
-        for data in self.made.values():
-            self.assertLessEqual(len(data), vectors.LARGEST_FILE)
+        for path, data in self.made.items():
+            if path != "stdout":
+                self.assertLessEqual(len(data), vectors.LARGEST_FILE)
 
     def test_patches_give_the_image(self) -> None:
         images = (b"", bytes(9), b"\x01", bytes(8) + b"\x01" + bytes(9) + b"\x02\0")

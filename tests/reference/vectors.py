@@ -69,6 +69,32 @@ boot     case:  image
 sparse   case:  partition length u64, image
          values: NUMBER of the refusal or 0; its PLACE, or 0; blocks WRITTEN
                 and SKIPPED, both 0 when refused.
+
+store    case:  length u32 (at most 4,096), seed u8, images u32 (at most 4),
+                each image (of at most 8,192 bytes); runs u32 (at most 32), then
+                for each run cut u32, limit u64, offset u32, count u32, count
+                bytes.
+         The partition has `length` bytes, byte i being (seed + 7 * i) % 256 at
+                first.  A run stores the images before number `cut` in full,
+                then that one with the cut form and `limit`; at last its count
+                bytes, the torn block, go into the partition at `offset`.  They
+                lie in the next block to be stored; count is 0 where there is
+                none.  Where `cut` equals the number of images, the cut form is
+                not called, and limit and count are 0.  Each run begins on what
+                the run before left.  After all runs comes one full run: the
+                plain store of each image in turn.
+         values: for each run, NUMBER of the cut form's refusal or 0, its PLACE,
+                or 0, the COUNT of blocks that it stored, 0 when refused (0 0 0
+                where it is not called), and the CHECKSUM of the partition after
+                the torn block; then for each image of the full run NUMBER PLACE
+                WRITTEN SKIPPED as in `sparse`; at last the CHECKSUM of the
+                partition.
+
+write    case:  block size u32, length u32 (at most 69,632), flat bytes in the
+                form of an image
+         The output has `length` bytes, byte i being (11 + 5 * i) % 256 at first.
+         values: NUMBER of the refusal or 0; the image's LENGTH, 0 when refused;
+                the CHECKSUM of the whole output after.
 """
 
 import argparse
@@ -82,6 +108,8 @@ import cases_crc
 import cases_fields
 import cases_slots
 import cases_sparse
+import cases_store
+import cases_write
 from cases_common import Group
 
 SEED = 20240901
@@ -94,6 +122,8 @@ GROUPS: Tuple[Tuple[str, Callable[[random.Random], Group]], ...] = (
     ("slotsum", cases_slots.sum_group),
     ("boot", cases_boot.group),
     ("sparse", cases_sparse.group),
+    ("store", cases_store.group),
+    ("write", cases_write.group),
 )
 
 

@@ -1,0 +1,10 @@
+pub mod Laws
+pub mod OneSlot
+pub mod Places
+pub mod Steps
+pub mod Promises
+pub mod Answers
+pub mod Examples
+pub mod Held
+pub mod Thin
+pub mod ThinAt

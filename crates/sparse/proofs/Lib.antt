@@ -1,0 +1,11 @@
+pub mod Tests
+pub mod Walk
+pub mod Facts
+pub mod Cells
+pub mod Theorems
+pub mod SumLaws
+pub mod Refusals
+pub mod Tally
+pub mod Sums
+pub mod Verdicts
+pub mod Examples

@@ -1,0 +1,31 @@
+-- A list of tests none of which applies, and two tests in one.
+-- Assumes nothing.
+use mathlib.Core.Path.{_≡_, refl}
+use mathlib.Core.Bool.{Bool, true, false, _&&_}
+use mathlib.Core.List.{List, [], _∷_}
+use Prim.Native.Nat.{ℕ}
+use lib.Dec.{T, ltb, ltb→lt}
+use Rattle.rules.specs.First.{first}
+use Rattle.rules.proofs.First.{first-none, first-rest}
+
+-- each test of a list fails
+abbrev pub AllFail : List (Bool × ℕ) → Type 0
+AllFail [] = Unit {0}
+AllFail (t ∷ ts) = (t .0 ≡ false) × AllFail ts
+
+-- each test of a list has a number that is not 0
+abbrev pub Numbered : List (Bool × ℕ) → Type 0
+Numbered [] = Unit {0}
+Numbered (t ∷ ts) = T (ltb 0 (t .1)) × Numbered ts
+
+-- where no test applies, each fails
+pub all-fail : (ts : List (Bool × ℕ)) → Numbered ts → first ts ≡ 0 → AllFail ts
+all-fail [] n e = tt
+all-fail (t ∷ ts) n e =
+    let p = ltb→lt 0 (t .1) (n .0) in
+    (first-none (t .0) (t .1) ts p e, all-fail ts (n .1) (first-rest (t .0) (t .1) ts p e))
+
+-- both of two tests that hold together
+pub both : (a b : Bool) → (a && b) ≡ true → (a ≡ true) × (b ≡ true)
+both true b e = (refl, e)
+both false b e = (e, cc)

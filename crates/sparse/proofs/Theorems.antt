@@ -1,0 +1,72 @@
+-- What an accepted image adds up to, and that a longer partition changes nothing of it.
+-- Assumes nothing.
+use mathlib.Core.Path.{_≡_, refl, sym, ap, _∙_}
+use mathlib.Core.List.{List}
+use Prim.Native.Nat.{ℕ, zero, suc, _+_, _*_, _≤_, zero-le}
+use native.Mathlib.Nat.{le-trans, zero-add, zero-lt-suc}
+use native.Mathlib.Numerals.{sub-one}
+use native.Mathlib.Omega.{arith}
+use lib.ListN.{length}
+use borrow.Author.Tests.{ltb-false, le-ltb}
+use Rattle.rules.specs.First.{first}
+use Rattle.sparse.specs.declared.Header.{Header}
+use Rattle.sparse.specs.declared.Cursor.{Cursor}
+use Rattle.sparse.specs.declared.Chunk.{Chunk}
+use Rattle.sparse.specs.Header.{headerOf, headerTests, blockSize, totalBlocks, totalChunks}
+use Rattle.sparse.specs.Chunks.{accepted, walk, origin}
+use Rattle.sparse.specs.Cells.{written, skipped}
+use Rattle.sparse.specs.Judge.{structure, judged, effect, effectOf}
+use Rattle.sparse.specs.Answers.{answer, answerFor}
+use Rattle.sparse.specs.Theorems.{Sums, Unmoved}
+use Rattle.sparse.proofs.Tests.{all-fail}
+use Rattle.sparse.proofs.Walk.{stepped, ended}
+use Rattle.sparse.proofs.Facts.{chunk-facts, header-passed, judged-accepted, accepted-facts}
+use Rattle.sparse.proofs.Cells.{written-nil, skipped-nil, blocks-cons, length-cells, count-cells}
+
+-- the chunks of an accepted walk span the blocks from the cursor's to the total
+pub walk-total : (s : List ℕ) (len : ℕ) (h : Header) (n : ℕ) (c : Cursor) (ks : List Chunk) → c .first ≤ h .total → walk s len h n c ≡ accepted ks
+    → c .first + (written ks + skipped ks) ≡ h .total
+walk-total s len h zero c ks p e =
+    let d = ended s len h zero c ks e refl in
+    rw (d .none, written-nil, skipped-nil) (omega (arith, d .filled))
+walk-total s len h (suc n) c ks p e =
+    let d = stepped s len h (suc n) c ks e (zero-lt-suc n) in
+    let f = chunk-facts s len h c (d .here) (d .next) (d .read) in
+    let r = walk-total s len h n (d .next) (d .rest) (f .within) (rw sub-one at (d .walked)) in
+    rw (d .found, blocks-cons (d .here) (d .rest)) (omega (arith, r, f .blocks))
+
+module _ (s : List ℕ) (len : ℕ) (ks : List Chunk) where
+  -- an accepted image adds up to its header's total, and has room
+  pub sums : (room : ℕ) → judged s len room ≡ accepted ks → Sums s room ks
+  unfolding structure
+  sums room e =
+      let a = accepted-facts s len room ks e in
+      let t : written ks + skipped ks ≡ totalBlocks s =
+      sym (zero-add _) ∙ walk-total s len (headerOf s) (totalChunks s) (origin (headerOf s)) ks zero-le (a .chunks) in
+      record {
+        total = t;
+        bytes = length-cells s (blockSize s) ks ∙ ap (λ (n : ℕ). n * blockSize s) t;
+        fits = a .header .fits;
+        stored = count-cells s (blockSize s) ks;
+      }
+
+  -- tests that pass with some room pass with more
+  passed-more : (room more : ℕ) → room ≤ more → first (headerTests s len room) ≡ 0 → first (headerTests s len more) ≡ 0
+  unfolding headerTests
+  passed-more room more h e =
+      let t = all-fail (headerTests s len room) (tt, (tt, (tt, (tt, (tt, (tt, tt)))))) e in
+      let fits : totalBlocks s * blockSize s ≤ more = le-trans (ltb-false room (totalBlocks s * blockSize s) (t .1 .1 .1 .1 .1 .0)) h in
+      rw (t .0, t .1 .0, t .1 .1 .0, t .1 .1 .1 .0, t .1 .1 .1 .1 .0, le-ltb more (totalBlocks s * blockSize s) fits)
+
+  -- an image that is accepted for a partition is accepted for a longer one
+  pub judged-more : (room more : ℕ) → room ≤ more → judged s len room ≡ accepted ks → judged s len more ≡ accepted ks
+  judged-more room more h e =
+      let a = accepted-facts s len room ks e in
+      judged-accepted s len more (passed-more room more h (header-passed s len room ks e)) ks (a .chunks) (a .checksum)
+
+-- an accepted image has the same chunks, counts and effect for every partition with more room
+pub unmoved : (s : List ℕ) (ks : List Chunk) (room more : ℕ) → room ≤ more → judged s (length s) room ≡ accepted ks → Unmoved s room more
+unfolding answer effect
+unmoved s ks room more h e =
+    let same : judged s (length s) more ≡ judged s (length s) room = judged-more s (length s) ks room more h e ∙ sym e in
+    record { finding = same; counted = ap answerFor same; given = ap (effectOf s) same }

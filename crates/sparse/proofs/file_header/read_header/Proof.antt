@@ -1,0 +1,46 @@
+-- `sparse::file_header::read_header` meets its contract.
+-- Assumes nothing.
+use borrow.Author.Needs.{needs}
+use Rattle.sparse.proofs.file_header.read_header.Statement.{statement}
+use Rattle.sparse.proofs.file_header.read_header.Tie as tie
+
+read32-requires : tie.Need-read32-requires
+read32-requires c κs = search needs
+
+read32-requires-2 : tie.Need-read32-requires-2
+read32-requires-2 c κs = search needs
+
+read32-requires-3 : tie.Need-read32-requires-3
+read32-requires-3 c κs = search needs
+
+read32-requires-4 : tie.Need-read32-requires-4
+read32-requires-4 c κs = search needs
+
+read16-requires : tie.Need-read16-requires
+read16-requires c κs = search needs
+
+wide-requires : tie.Need-wide-requires
+wide-requires c κs = search needs
+
+read16-requires-2 : tie.Need-read16-requires-2
+read16-requires-2 c κs = search needs
+
+wide-requires-2 : tie.Need-wide-requires-2
+wide-requires-2 c κs = search needs
+
+returns : tie.Need-returns
+returns c = cc
+
+pub read-header-spec : {M : Type 1} → statement M
+read-header-spec =
+    tie.close
+    (tie.spec
+    read32-requires
+    read32-requires-2
+    read32-requires-3
+    read32-requires-4
+    read16-requires
+    wide-requires
+    read16-requires-2
+    wide-requires-2
+    returns)
