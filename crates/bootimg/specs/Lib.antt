@@ -1,0 +1,7 @@
+pub mod Table
+pub mod Pages
+pub mod Sections
+pub mod Tests
+pub mod Sound
+pub mod Examples
+pub mod Steps

@@ -1,0 +1,142 @@
+-- Laws of cells laid over a partition, and of cells that are cut.
+-- Assumes nothing.
+use mathlib.Core.Path.{_≡_, refl, sym, ap, _∙_}
+use mathlib.Core.Option.{Option, none, some, Option·getD}
+use mathlib.Core.List.{List, [], _∷_, _++_, map}
+use Prim.Native.Nat.{ℕ, zero, suc, _-_, min, _≤_, _<_}
+use native.Mathlib.Nat.{le-of-suc-le-suc, not-suc-le-zero, sub-zero, zero-sub, suc-sub-suc, min-zero, zero-min, suc-min-suc}
+use native.Mathlib.Omega.{arith}
+use lib.ListN.{length, getD, take, replicate, length-replicate}
+use Rattle.sparse.specs.Cells.{count}
+use Rattle.sparse_store.specs.Store.{over, torn}
+
+-- ---- laying over
+
+pub length-over : (cs : List (Option ℕ)) (p : List ℕ) → length (over cs p) ≡ length p
+length-over [] p = refl
+length-over (c ∷ cs) [] = refl
+length-over (c ∷ cs) (x ∷ xs) = ap suc (length-over cs xs)
+
+-- each byte afterwards is its cell's, or as before
+pub getD-over : (cs : List (Option ℕ)) (p : List ℕ) (i : ℕ) → i < length p
+    → getD (over cs p) i 0 ≡ Option·getD (getD cs i none) (getD p i 0)
+getD-over [] p i h = refl
+getD-over (c ∷ cs) [] i h = absurd (not-suc-le-zero h)
+getD-over (c ∷ cs) (x ∷ xs) zero h = refl
+getD-over (c ∷ cs) (x ∷ xs) (suc i) h = getD-over cs xs i (le-of-suc-le-suc h)
+
+-- on no bytes nothing is laid
+over-nil : (cs : List (Option ℕ)) → over cs [] ≡ []
+over-nil [] = refl
+over-nil (c ∷ cs) = refl
+
+twice : (c : Option ℕ) (x : ℕ) → Option·getD c (Option·getD c x) ≡ Option·getD c x
+twice none x = refl
+twice (some v) x = refl
+
+-- laid over twice is laid over once
+pub over-twice : (cs : List (Option ℕ)) (p : List ℕ) → over cs (over cs p) ≡ over cs p
+over-twice [] p = refl
+over-twice (c ∷ cs) [] = refl
+over-twice (c ∷ cs) (x ∷ xs) = rw (twice c x, over-twice cs xs)
+
+-- what is kept after the last stored cell changes nothing
+pub over-kept : (cs : List (Option ℕ)) (n : ℕ) (p : List ℕ) → over (cs ++ replicate n none) p ≡ over cs p
+over-kept [] zero p = refl
+over-kept [] (suc n) [] = refl
+over-kept [] (suc n) (x ∷ xs) = ap (λ (r : List ℕ). x ∷ r) (over-kept [] n xs)
+over-kept (c ∷ cs) n [] = refl
+over-kept (c ∷ cs) n (x ∷ xs) = ap (λ (r : List ℕ). Option·getD c x ∷ r) (over-kept cs n xs)
+
+-- cells laid over after others lie where those end
+pub over-then : (cs ds : List (Option ℕ)) (p : List ℕ) → over (replicate (length cs) none ++ ds) (over cs p) ≡ over (cs ++ ds) p
+over-then [] ds p = refl
+over-then (c ∷ cs) ds [] = refl
+over-then (c ∷ cs) ds (x ∷ xs) = ap (λ (r : List ℕ). Option·getD c x ∷ r) (over-then cs ds xs)
+
+-- ---- cutting
+
+-- a cut stores nowhere else
+pub torn-none : (k : ℕ) (js : List ℕ) (cs : List (Option ℕ)) (i : ℕ) → getD cs i none ≡ none → getD (torn k js cs) i none ≡ none
+torn-none k js [] i e = refl
+torn-none k js (none ∷ cs) zero e = refl
+torn-none k js (none ∷ cs) (suc i) e = torn-none k js cs i e
+torn-none (suc k) js (some b ∷ cs) zero e = e
+torn-none (suc k) js (some b ∷ cs) (suc i) e = torn-none k js cs i e
+torn-none zero (j ∷ js) (some b ∷ cs) zero e = cc
+torn-none zero (j ∷ js) (some b ∷ cs) (suc i) e = torn-none zero js cs i e
+torn-none zero [] (some b ∷ cs) zero e = refl
+torn-none zero [] (some b ∷ cs) (suc i) e = torn-none zero [] cs i e
+
+-- a cell with fewer than k stored ones before it is new
+pub torn-new : (k : ℕ) (js : List ℕ) (cs : List (Option ℕ)) (i : ℕ) → count (take i cs) < k → getD (torn k js cs) i none ≡ getD cs i none
+torn-new k js [] i h = refl
+torn-new k js (none ∷ cs) zero h = refl
+torn-new k js (none ∷ cs) (suc i) h = torn-new k js cs i h
+torn-new (suc k) js (some b ∷ cs) zero h = refl
+torn-new (suc k) js (some b ∷ cs) (suc i) h = torn-new k js cs i (le-of-suc-le-suc h)
+torn-new zero js (some b ∷ cs) i h = absurd (not-suc-le-zero h)
+
+-- a stored cell with k or more before it holds what js has for it
+pub torn-next : (k : ℕ) (js : List ℕ) (cs : List (Option ℕ)) (i v : ℕ) → k ≤ count (take i cs) → getD cs i none ≡ some v
+    → getD (torn k js cs) i none ≡ getD (map some js) (count (take i cs) - k) none
+torn-next k js [] i v h e = cc
+torn-next k js (none ∷ cs) zero v h e = cc
+torn-next k js (none ∷ cs) (suc i) v h e = torn-next k js cs i v h e
+torn-next (suc k) js (some b ∷ cs) zero v h e = absurd (not-suc-le-zero h)
+torn-next (suc k) js (some b ∷ cs) (suc i) v h e = rw suc-sub-suc (torn-next k js cs i v (le-of-suc-le-suc h) e)
+torn-next zero (j ∷ js) (some b ∷ cs) zero v h e = refl
+torn-next zero (j ∷ js) (some b ∷ cs) (suc i) v h e = rw sub-zero (rw sub-zero at (torn-next zero js cs i v (omega arith) e))
+torn-next zero [] (some b ∷ cs) zero v h e = refl
+torn-next zero [] (some b ∷ cs) (suc i) v h e = torn-next zero [] cs i v (omega arith) e
+
+-- a cut after all stored cells is none
+pub torn-all : (k : ℕ) (js : List ℕ) (cs : List (Option ℕ)) → count cs ≤ k → torn k js cs ≡ cs
+torn-all k js [] h = refl
+torn-all k js (none ∷ cs) h = ap (λ (r : List (Option ℕ)). none ∷ r) (torn-all k js cs h)
+torn-all (suc k) js (some b ∷ cs) h = ap (λ (r : List (Option ℕ)). some b ∷ r) (torn-all k js cs (le-of-suc-le-suc h))
+torn-all zero js (some b ∷ cs) h = absurd (not-suc-le-zero h)
+
+-- cells that are joined are cut one after the other
+pub torn-append : (k : ℕ) (cs ds : List (Option ℕ)) → torn k [] (cs ++ ds) ≡ torn k [] cs ++ torn (k - count cs) [] ds
+torn-append k [] ds = rw sub-zero
+torn-append k (none ∷ cs) ds = ap (λ (r : List (Option ℕ)). none ∷ r) (torn-append k cs ds)
+torn-append (suc k) (some b ∷ cs) ds = rw suc-sub-suc (ap (λ (r : List (Option ℕ)). some b ∷ r) (torn-append k cs ds))
+torn-append zero (some b ∷ cs) ds =
+    rw zero-sub (ap (λ (r : List (Option ℕ)). none ∷ r) (rw zero-sub at (torn-append zero cs ds)))
+
+-- a cut stores the lesser of k and the stored cells
+pub count-torn : (k : ℕ) (cs : List (Option ℕ)) → count (torn k [] cs) ≡ min k (count cs)
+count-torn k [] = sym (min-zero k)
+count-torn k (none ∷ cs) = count-torn k cs
+count-torn (suc k) (some b ∷ cs) = ap suc (count-torn k cs) ∙ sym (suc-min-suc k (count cs))
+count-torn zero (some b ∷ cs) = count-torn zero cs ∙ zero-min (count cs) ∙ sym (zero-min (suc (count cs)))
+
+-- stored cells cut after k: the first k of them
+pub torn-some : (k : ℕ) (l : List ℕ) → torn k [] (map some l) ≡ map some (take k l) ++ replicate (length l - k) none
+torn-some zero [] = refl
+torn-some (suc k) [] = rw zero-sub
+torn-some (suc k) (x ∷ xs) = rw suc-sub-suc (ap (λ (r : List (Option ℕ)). some x ∷ r) (torn-some k xs))
+torn-some zero (x ∷ xs) = rw sub-zero (ap (λ (r : List (Option ℕ)). none ∷ r) (rw sub-zero at (torn-some zero xs)))
+
+-- kept cells that are cut are kept
+pub torn-kept : (k n : ℕ) → torn k [] (replicate n none) ≡ replicate n none
+torn-kept k zero = refl
+torn-kept k (suc n) = ap (λ (r : List (Option ℕ)). none ∷ r) (torn-kept k n)
+
+-- whatever the partition holds at the next r stored cells, a cut that stores it there changes nothing
+pub torn-held : (k r : ℕ) (cs : List (Option ℕ)) (p : List ℕ)
+    → (js : List ℕ) × (length js ≡ r) × (over (torn k [] cs) p ≡ over (torn k js cs) p)
+torn-held k r [] p = (replicate r 0, length-replicate r 0, refl)
+torn-held k r (c ∷ cs) [] =
+    (replicate r 0, length-replicate r 0, over-nil (torn k [] (c ∷ cs)) ∙ sym (over-nil (torn k (replicate r 0) (c ∷ cs))))
+torn-held k r (none ∷ cs) (x ∷ xs) =
+    let rest = torn-held k r cs xs in
+    (rest .0, rest .1, ap (λ (l : List ℕ). x ∷ l) (rest .2))
+torn-held (suc k) r (some b ∷ cs) (x ∷ xs) =
+    let rest = torn-held k r cs xs in
+    (rest .0, rest .1, ap (λ (l : List ℕ). b ∷ l) (rest .2))
+torn-held zero zero (some b ∷ cs) (x ∷ xs) = ([], refl, refl)
+torn-held zero (suc r) (some b ∷ cs) (x ∷ xs) =
+    let rest = torn-held zero r cs xs in
+    (x ∷ rest .0, ap suc (rest .1), ap (λ (l : List ℕ). x ∷ l) (rest .2))

@@ -1,0 +1,5 @@
+pub mod Store
+pub mod Answers
+pub mod Runs
+pub mod Blocks
+pub mod Lent

@@ -1,0 +1,148 @@
+// Storing a sparse image on a lent partition: whole, or up to a limit of stored blocks.
+ghost use mathlib.Core.Path.{_≡_};
+ghost use mathlib.Core.Bool.{cond};
+ghost use Prim.Native.Nat.{_+_, _%_, _≤_, min};
+ghost use lib.ListN.{length};
+ghost use Rattle.sparse.specs.Cells.{tab, rawByte, fillByte, cellsBy, writes};
+ghost use Rattle.sparse.specs.Answers.{answer, answerOf};
+ghost use Rattle.sparse_store.specs.Store.{store, storeUpTo};
+ghost use Rattle.sparse_store.specs.Answers.{cutAnswer, cutAnswerOf};
+ghost use Rattle.sparse_store.specs.Lent.{laid, Lent, Storable};
+use sparse::Chunk;
+use sparse::ChunkRead;
+use sparse::Cursor;
+use sparse::Kind;
+use sparse::Refusal;
+use sparse::Verdict;
+
+// What the cut form answers: how many blocks it stored, or the judge's refusal.
+pub enum Stored {
+    Blocks(u64),
+    Refused(Refusal),
+}
+
+// The raw writer: the whole part becomes the data that stand at a place of the image.
+fn put_raw(part: &mut [u8], image: &[u8], at: usize)
+    requires { ⌜ at + length (now part) ≤ length (now image) ⌝ }
+    ensures { λ _. ⌜ now (part .exit) ≡ tab (rawByte (now (image .entry)) at) 0 (length (now (part .entry))) ⌝ }
+{
+    let n = part.len();
+    let mut i: usize = 0;
+    while i < n {
+        part[i] = image[at + i];
+        i = i + 1;
+    }
+}
+
+// The fill writer: the whole part becomes the 4 bytes that stand at a place of the image, repeated.
+fn put_fill(part: &mut [u8], image: &[u8], at: usize)
+    requires { ⌜ (at + 4 ≤ length (now image)) × (length (now part) % 4 ≡ 0) ⌝ }
+    ensures { λ _. ⌜ now (part .exit) ≡ tab (fillByte (now (image .entry)) at) 0 (length (now (part .entry))) ⌝ }
+{
+    let a = image[at];
+    let b = image[at + 1];
+    let c = image[at + 2];
+    let d = image[at + 3];
+    let n = part.len();
+    let mut i: usize = 0;
+    while i < n {
+        part[i] = a;
+        part[i + 1] = b;
+        part[i + 2] = c;
+        part[i + 3] = d;
+        i = i + 4;
+    }
+}
+
+// The first bytes of a chunk: only its own stretch of the partition is handed on.
+fn store_chunk(image: &[u8], partition: &mut [u8], chunk: Chunk, from: usize, bytes: usize)
+    requires { ⌜ Lent (now image) (length (now partition)) chunk from bytes ⌝ }
+    ensures { λ _. ⌜ now (partition .exit) ≡ laid from (cellsBy (now (image .entry)) (chunk .kind) (chunk .body) bytes) (now (partition .entry)) ⌝ }
+{
+    let end = from + bytes;
+    let body = chunk.body;
+    let kind = chunk.kind;
+    match kind {
+        Kind::Raw => put_raw(&mut partition[from..end], image, body),
+        Kind::Fill => put_fill(&mut partition[from..end], image, body),
+        Kind::DontCare => {}
+        Kind::Unknown => {}
+    }
+}
+
+// The lesser of two counts of blocks.
+fn least(a: u64, b: u64) -> u64
+    ensures { λ r. ⌜ r ≡ min a b ⌝ }
+{
+    if a <= b { a } else { b }
+}
+
+// How many blocks of a chunk are stored, where so many are still to be: none of a chunk that is skipped.
+fn taken(chunk: Chunk, left: u64) -> u64
+    ensures { λ r. ⌜ r ≡ min left (cond (writes (chunk .kind)) (chunk .blocks) 0) ⌝ }
+{
+    let kind = chunk.kind;
+    match kind {
+        Kind::Raw => least(left, chunk.blocks as u64),
+        Kind::Fill => least(left, chunk.blocks as u64),
+        Kind::DontCare => 0,
+        Kind::Unknown => 0,
+    }
+}
+
+// The first blocks of an accepted image, in order, so many as it is known to have.
+fn store_blocks(image: &[u8], partition: &mut [u8], count: u64)
+    requires { ⌜ Storable (now image) (length (now partition)) count ⌝ }
+    ensures { λ _. ⌜ now (partition .exit) ≡ storeUpTo count (now (image .entry)) (now (partition .entry)) ⌝ }
+{
+    let header = sparse::read_header(image);
+    let block = header.block as usize;
+    let mut cursor = Cursor {
+        at: header.start as usize,
+        first: 0,
+    };
+    let mut left = count;
+    while 0 < left {
+        let r = sparse::read_chunk(image, header, cursor);
+        let ChunkRead::Chunk(chunk, next) = r else {
+            return;
+        };
+        let take = taken(chunk, left);
+        let from = cursor.first as usize * block;
+        let bytes = take as usize * block;
+        left = left - take;
+        cursor = next;
+        store_chunk(image, partition, chunk, from, bytes);
+    }
+}
+
+// The cut form: judges the whole image, then stores its first blocks, in order, up to the limit or
+// all that it writes; answers how many. A refusal leaves the partition as it was.
+pub fn store_limited(image: &[u8], partition: &mut [u8], limit: u64) -> Stored
+    ensures answer { λ r. ⌜ cutAnswerOf r ≡ cutAnswer limit (now (image .entry)) (length (now (partition .entry))) ⌝ }
+    ensures contents { λ _. ⌜ now (partition .exit) ≡ storeUpTo limit (now (image .entry)) (now (partition .entry)) ⌝ }
+{
+    let verdict = sparse::judge(image, partition.len() as u64);
+    match verdict {
+        Verdict::Accepted(written, _) => {
+            let count = least(limit, written as u64);
+            store_blocks(image, partition, count);
+            Stored::Blocks(count)
+        }
+        Verdict::Refused(f) => Stored::Refused(f),
+    }
+}
+
+// The plain store: the cut form with a limit of all blocks that the image writes; answers as the
+// judge does.
+pub fn store(image: &[u8], partition: &mut [u8]) -> Verdict
+    ensures answer { λ r. ⌜ answerOf r ≡ answer (now (image .entry)) (length (now (image .entry))) (length (now (partition .entry))) ⌝ }
+    ensures contents { λ _. ⌜ now (partition .exit) ≡ store (now (image .entry)) (now (partition .entry)) ⌝ }
+{
+    let verdict = sparse::judge(image, partition.len() as u64);
+    let Verdict::Accepted(written, _) = verdict else {
+        return verdict;
+    };
+    store_blocks(image, partition, written as u64);
+    verdict
+}
