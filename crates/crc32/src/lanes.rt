@@ -15,7 +15,7 @@ pub struct Lanes {
 }
 
 // The state after the bytes of a slice.
-pub fn serial(state: u32, src: &[u8]) -> u32
+pub(crate) fn serial(state: u32, src: &[u8]) -> u32
     ensures { λ r. ⌜ r ≡ crcFrom state (now (src .entry)) ⌝ }
 {
     let table = half_bytes();
@@ -27,7 +27,7 @@ pub fn serial(state: u32, src: &[u8]) -> u32
 }
 
 // The first lane goes on from the state, each of the others begins at 0.
-pub fn abreast(state: u32, first: &[u8], second: &[u8], third: &[u8], fourth: &[u8]) -> Lanes
+pub(crate) fn abreast(state: u32, first: &[u8], second: &[u8], third: &[u8], fourth: &[u8]) -> Lanes
     requires { ⌜ (length (now second) ≡ length (now first))
         × (length (now third) ≡ length (now first))
         × (length (now fourth) ≡ length (now first)) ⌝ }

@@ -20,7 +20,7 @@ fn term(b: u32, a: u32) -> u32
 }
 
 // The product of two reflected polynomials modulo the polynomial.
-pub fn product(b: u32, a: u32) -> u32
+pub(crate) fn product(b: u32, a: u32) -> u32
     ensures { λ r. ⌜ r ≡ times b a ⌝ }
 {
     let mut acc = 0;
@@ -34,7 +34,7 @@ pub fn product(b: u32, a: u32) -> u32
 
 // n times: the state is multiplied by `power`, and `add` is added. Where `power` is x to the power
 // e, that is e one-bit steps.
-pub fn run(state: u32, power: u32, add: u32, n: u64) -> u32
+pub(crate) fn run(state: u32, power: u32, add: u32, n: u64) -> u32
     ensures { λ r. ⌜ ((e : ℕ) → power ≡ steps e unit → r ≡ runs e add n state) ⌝ }
 {
     let mut s = state;

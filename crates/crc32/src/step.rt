@@ -24,7 +24,7 @@ const TABLE: [u32; 16] = [
 ];
 
 // The table, for a caller to keep while it goes over its bytes.
-pub fn half_bytes() -> [u32; 16]
+pub(crate) fn half_bytes() -> [u32; 16]
     ensures { λ r. ⌜ HalfBytes r ⌝ }
 {
     TABLE
@@ -47,7 +47,7 @@ fn wide(x: u8) -> u32
 }
 
 // The state after the byte.
-pub fn byte(table: &[u32; 16], state: u32, x: u8) -> u32
+pub(crate) fn byte(table: &[u32; 16], state: u32, x: u8) -> u32
     requires { ⌜ HalfBytes (now table) ⌝ }
     ensures { λ r. ⌜ r ≡ byteStep state x ⌝ }
 {

@@ -20,7 +20,7 @@ use crate::sum::sum_chunk;
 
 // The answer to an image whose structure holds, with so many blocks written and skipped: accepted
 // where its checksum is the header's, and else refused.
-pub fn checked(image: &[u8], header: Header, written: u32, skipped: u32) -> Verdict
+pub(crate) fn checked(image: &[u8], header: Header, written: u32, skipped: u32) -> Verdict
     requires { ⌜ (header .block ≤ 65536) × (header .block % 4 ≡ 0) ⌝ }
     ensures { λ r. ⌜ ((ks : List Chunk) → walk (now (image .entry)) (length (now (image .entry))) header (header .chunks) (origin header) ≡ accepted ks → answerOf r ≡ cond (eqb (checksumOf (now (image .entry)) (header .block) ks) (header .checksum)) (counts written skipped) (refusedWith 11 24)) ⌝ }
 {

@@ -51,7 +51,7 @@ fn block_right(block: u32) -> bool
 }
 
 // The first of refusals 1 to 6 that applies, for a partition with so much room; 0 where none does.
-pub fn header_refusal(image: &[u8], room: u64) -> u32
+pub(crate) fn header_refusal(image: &[u8], room: u64) -> u32
     ensures { λ r. ⌜ r ≡ first (headerTests (now (image .entry)) (length (now (image .entry))) room) ⌝ }
 {
     if image.len() < 28 {

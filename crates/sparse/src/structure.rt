@@ -15,7 +15,7 @@ use crate::Verdict;
 use crate::reader::read_chunk;
 
 // A refusal at a place of the image.
-pub fn refuse(number: u32, at: usize) -> Verdict
+pub(crate) fn refuse(number: u32, at: usize) -> Verdict
     ensures { λ r. ⌜ r ≡ Verdict.Refused (record { number = number; place = at }) ⌝ }
 {
     Verdict::Refused(Refusal {
@@ -25,7 +25,7 @@ pub fn refuse(number: u32, at: usize) -> Verdict
 }
 
 // The refusal of a chunk, handed on.
-pub fn refused(r: ChunkRead) -> Verdict
+pub(crate) fn refused(r: ChunkRead) -> Verdict
     ensures { λ v. ⌜ v ≡ stoppedBy r ⌝ }
 {
     match r {
@@ -48,7 +48,7 @@ fn blocks_written(chunk: Chunk) -> u32
 }
 
 // The counts of blocks of an image whose structure holds, or its first refusal from 7 to 10.
-pub fn structure(image: &[u8], header: Header) -> Verdict
+pub(crate) fn structure(image: &[u8], header: Header) -> Verdict
     ensures { λ r. ⌜ answerOf r ≡ answerFor (walk (now (image .entry)) (length (now (image .entry))) header (header .chunks) (origin header)) ⌝ }
 {
     let mut cursor = Cursor {

@@ -8,7 +8,7 @@ use crate::Chunk;
 use crate::Kind;
 
 // The state after a chunk's cells, at a block size.
-pub fn sum_chunk(state: u32, image: &[u8], block: u32, chunk: Chunk) -> u32
+pub(crate) fn sum_chunk(state: u32, image: &[u8], block: u32, chunk: Chunk) -> u32
     requires { ⌜ Summable (now image) block chunk ⌝ }
     ensures { λ r. ⌜ r ≡ crcFrom state (zeroed (cellsOf (now (image .entry)) block chunk)) ⌝ }
 {

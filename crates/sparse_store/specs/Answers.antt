@@ -3,6 +3,8 @@
 use mathlib.Core.List.{List}
 use Prim.Native.Nat.{ℕ, min}
 use lib.ListN.{length}
+use Rattle.sparse.specs.declared.ChunkRead.{ChunkRead}
+use Rattle.sparse.specs.declared.ChunkRead.the-variants as read
 use Rattle.sparse.specs.Chunks.{Finding, refused, accepted}
 use Rattle.sparse.specs.Cells.{written}
 use Rattle.sparse.specs.Judge.{judged}
@@ -18,6 +20,11 @@ pub data CutAnswer : Type 0 where
 abbrev pub cutAnswerOf : Stored → CutAnswer
 cutAnswerOf (Blocks n) = stored n
 cutAnswerOf (Refused f) = refusedWith (f .number) (f .place)
+
+-- what the cut form answers where a chunk's refusal stops it
+abbrev pub stoppedBy : ChunkRead → Stored
+stoppedBy (read.Refused f) = Refused f
+stoppedBy (read.Chunk k next) = Blocks 0
 
 -- the answer that a finding asks for: "up to the limit or the image's number of written blocks, the lesser"
 unfoldable pub cutAnswerFor : ℕ → Finding → CutAnswer

@@ -6,7 +6,7 @@ ghost use lib.ListN.{length};
 ghost use Rattle.sparse.specs.Cells.{tab, rawByte, fillByte, cellsBy, writes};
 ghost use Rattle.sparse.specs.Answers.{answer, answerOf};
 ghost use Rattle.sparse_store.specs.Store.{store, storeUpTo};
-ghost use Rattle.sparse_store.specs.Answers.{cutAnswer, cutAnswerOf};
+ghost use Rattle.sparse_store.specs.Answers.{cutAnswer, cutAnswerOf, stoppedBy};
 ghost use Rattle.sparse_store.specs.Lent.{laid, Lent, Storable};
 use sparse::Chunk;
 use sparse::ChunkRead;
@@ -90,10 +90,21 @@ fn taken(chunk: Chunk, left: u64) -> u64
     }
 }
 
-// The first blocks of an accepted image, in order, so many as it is known to have.
-fn store_blocks(image: &[u8], partition: &mut [u8], count: u64)
+// The refusal of a chunk, handed on.
+fn refused(r: ChunkRead) -> Stored
+    ensures { λ s. ⌜ s ≡ stoppedBy r ⌝ }
+{
+    match r {
+        ChunkRead::Refused(f) => Stored::Refused(f),
+        ChunkRead::Chunk(_, _) => Stored::Blocks(0),
+    }
+}
+
+// The first blocks of an accepted image, in order, so many as it is known to have; answers how many.
+fn store_blocks(image: &[u8], partition: &mut [u8], count: u64) -> Stored
     requires { ⌜ Storable (now image) (length (now partition)) count ⌝ }
-    ensures { λ _. ⌜ now (partition .exit) ≡ storeUpTo count (now (image .entry)) (now (partition .entry)) ⌝ }
+    ensures answer { λ r. ⌜ r ≡ Stored.Blocks count ⌝ }
+    ensures contents { λ _. ⌜ now (partition .exit) ≡ storeUpTo count (now (image .entry)) (now (partition .entry)) ⌝ }
 {
     let header = sparse::read_header(image);
     let block = header.block as usize;
@@ -105,7 +116,7 @@ fn store_blocks(image: &[u8], partition: &mut [u8], count: u64)
     while 0 < left {
         let r = sparse::read_chunk(image, header, cursor);
         let ChunkRead::Chunk(chunk, next) = r else {
-            return;
+            return refused(r);
         };
         let take = taken(chunk, left);
         let from = cursor.first as usize * block;
@@ -114,6 +125,7 @@ fn store_blocks(image: &[u8], partition: &mut [u8], count: u64)
         cursor = next;
         store_chunk(image, partition, chunk, from, bytes);
     }
+    Stored::Blocks(count)
 }
 
 // The cut form: judges the whole image, then stores its first blocks, in order, up to the limit or
@@ -126,8 +138,7 @@ pub fn store_limited(image: &[u8], partition: &mut [u8], limit: u64) -> Stored
     match verdict {
         Verdict::Accepted(written, _) => {
             let count = least(limit, written as u64);
-            store_blocks(image, partition, count);
-            Stored::Blocks(count)
+            store_blocks(image, partition, count)
         }
         Verdict::Refused(f) => Stored::Refused(f),
     }

@@ -42,7 +42,7 @@ returns-2 c =
     let a = c .before .before .before .before .before .before .before .before .before .before .args in
     let g = c .before .before .before .before .before .verdict .given in
     let e = sym (ap answerOf (g .1)) ∙ c .before .before .before .before .before .before .before .judge .ensures in
-    (e, c .before .before .store-blocks .ensures ∙ stored-whole (a .image .now) (a .partition .now) (g .0 .0) (g .0 .1 .0) e)
+    (e, c .before .before .store-blocks .ensures .1 ∙ stored-whole (a .image .now) (a .partition .now) (g .0 .0) (g .0 .1 .0) e)
 
 pub store-spec : {M : Type 1} → statement M
 store-spec =

@@ -1,6 +1,6 @@
 -- `sparse_store::store_blocks` meets its contract. The loop's invariant: what is left to store, laid over what the partition
 -- holds, gives the whole. The measure is what is left of the image. Assumes nothing.
-use mathlib.Core.Path.{sym, ap, _∙_}
+use mathlib.Core.Path.{refl, sym, ap, _∙_}
 use Prim.Native.Nat.{_-_, _*_, _^_, _<_}
 use native.Mathlib.Omega.{arith}
 use borrow.Author.Needs.{needs}
@@ -58,19 +58,22 @@ enum-known-r c = search needs
 enum-told : tie.Need-enum-told Inv-loop μ-loop
 enum-told c = search needs
 
+refused-requires : tie.Need-refused-requires Inv-loop μ-loop
+refused-requires c κs = search needs
+
 same-length : tie.Need-same-length Inv-loop μ-loop
 same-length c = search needs
 
 returns : tie.Need-returns Inv-loop μ-loop
 returns c =
-    let g = c .enum-told .given in
+    let g = c .before .enum-told .given in
     absurd
     (not-refused
-    (c .before .before .before .before .loop .inv)
-    (c .before .before .before .loop-test .taken)
+    (c .before .before .before .before .before .loop .inv)
+    (c .before .before .before .before .loop-test .taken)
     (g .0 .0 .number)
     (g .0 .0 .place)
-    (sym (c .before .before .read-chunk .ensures) ∙ ap readingOf (g .1)))
+    (sym (c .before .before .before .read-chunk .ensures) ∙ ap readingOf (g .1)))
 
 taken-requires : tie.Need-taken-requires Inv-loop μ-loop
 taken-requires c κs = search needs
@@ -109,7 +112,7 @@ same-length-2 : tie.Need-same-length-2 Inv-loop μ-loop
 same-length-2 c = c .before .loop .inv .size
 
 returns-2 : tie.Need-returns-2 Inv-loop μ-loop
-returns-2 c = turn-done (c .before .loop .inv) (c .loop-test .left)
+returns-2 c = (refl, turn-done (c .before .loop .inv) (c .loop-test .left))
 
 pub store-blocks-spec : {M : Type 1} → statement M
 store-blocks-spec =
@@ -124,6 +127,7 @@ store-blocks-spec =
     read-chunk-requires
     enum-known-r
     enum-told
+    refused-requires
     same-length
     returns
     taken-requires

@@ -6,7 +6,7 @@ use native.Mathlib.Omega.{arith}
 use borrow.Author.Needs.{needs}
 use Rattle.sparse.specs.Answers.{answerOf}
 use Rattle.sparse_store.specs.Store.{storeUpTo}
-use Rattle.sparse_store.specs.Answers.{stored}
+use Rattle.sparse_store.specs.Answers.{stored, cutAnswerOf}
 use Rattle.sparse_store.proofs.Entries.{storable, stored-least, answered-least, refused-limited, answered-refused}
 use Rattle.sparse_store.proofs.store_limited.Statement.{statement}
 use Rattle.sparse_store.proofs.store_limited.Tie as tie
@@ -42,8 +42,8 @@ returns c =
     let g = c .before .before .before .before .before .before .verdict .given in
     let e = sym (ap answerOf (g .1)) ∙ c .before .before .before .before .before .before .before .before .judge .ensures in
     let count = c .before .before .before .before .least in (
-      ap stored (count .ensures) ∙ answered-least (a .image .now) (a .partition .now) (g .0 .0) (g .0 .1 .0) e (a .limit),
-      c .before .before .store-blocks .ensures ∙ ap (λ (n : ℕ). storeUpTo n (a .image .now) (a .partition .now)) (count .ensures)
+      ap cutAnswerOf (c .before .before .store-blocks .ensures .0) ∙ ap stored (count .ensures) ∙ answered-least (a .image .now) (a .partition .now) (g .0 .0) (g .0 .1 .0) e (a .limit),
+      c .before .before .store-blocks .ensures .1 ∙ ap (λ (n : ℕ). storeUpTo n (a .image .now) (a .partition .now)) (count .ensures)
           ∙ stored-least (a .image .now) (a .partition .now) (g .0 .0) (g .0 .1 .0) e (a .limit),
     )
 
