@@ -5,4 +5,3 @@ pub mod Ends
 pub mod Judging
 pub mod Laying
 pub mod Sound
-pub mod Examples

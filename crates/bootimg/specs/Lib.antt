@@ -3,5 +3,4 @@ pub mod Pages
 pub mod Sections
 pub mod Tests
 pub mod Sound
-pub mod Examples
 pub mod Steps

@@ -4,7 +4,6 @@ pub mod Places
 pub mod Steps
 pub mod Promises
 pub mod Answers
-pub mod Examples
 pub mod Held
 pub mod Thin
 pub mod ThinAt

@@ -4,4 +4,3 @@ pub mod Answers
 pub mod Operations
 pub mod Applied
 pub mod Promises
-pub mod Examples

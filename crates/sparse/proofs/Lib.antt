@@ -8,4 +8,3 @@ pub mod Refusals
 pub mod Tally
 pub mod Sums
 pub mod Verdicts
-pub mod Examples

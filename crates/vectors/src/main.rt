@@ -10,6 +10,7 @@ mod slot_cases;
 mod sparse_cases;
 mod store_cases;
 mod support;
+mod write_cases;
 
 use support::load;
 use support::past;
@@ -29,6 +30,8 @@ const SPARSE: u32 = 5;
 
 const STORE: u32 = 6;
 
+const WRITE: u32 = 7;
+
 // Prints the line of a group's case at `at`, and answers how many bytes the case takes.
 fn case(group: u32, file: &[u8], at: usize, index: u64) -> usize {
     match group {
@@ -39,6 +42,7 @@ fn case(group: u32, file: &[u8], at: usize, index: u64) -> usize {
         BOOT => boot_cases::case(file, at, index),
         SPARSE => sparse_cases::case(file, at, index),
         STORE => store_cases::case(file, at, index),
+        WRITE => write_cases::case(file, at, index),
         _ => 1,
     }
 }
@@ -69,4 +73,5 @@ fn main() {
     run(BOOT, b"boot.bin");
     run(SPARSE, b"sparse.bin");
     run(STORE, b"store.bin");
+    run(WRITE, b"write.bin");
 }

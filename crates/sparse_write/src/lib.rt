@@ -1,0 +1,138 @@
+// Sparse images written from flat bytes, in two passes over runs of blocks: the first measures the
+// image, so that a refusal stores nothing; the second puts its chunks, and the header after them.
+// The flat data are read three times at most: scanned twice, and copied where they are raw. The
+// checksum is worked out over raw data where they were put, and over a long fill run from its word.
+mod put;
+mod scan;
+
+use put::put_chunk;
+use put::put_header;
+use scan::first_kind;
+use scan::run;
+use sparse::Refusal;
+ghost use mathlib.Core.Path.{_≡_};
+ghost use Prim.Native.Nat.{_+_, _*_, _%_, _≤_, _<_};
+ghost use lib.ListN.{length};
+ghost use lib.Seq.{sets};
+ghost use Rattle.crc32.specs.Crc.{crcFrom, ones};
+ghost use Rattle.sparse.specs.Header.{blockSizeRight};
+ghost use Rattle.sparse_write.specs.Encode.{storedKind, size, chunks};
+ghost use Rattle.sparse_write.specs.Scan.{runsAt};
+ghost use Rattle.sparse_write.specs.Write.{lengthWrong, answerOf, answer, output};
+
+// What the writer answers: the image's length, or a refusal.
+pub enum Outcome {
+    Written(usize),
+    Refused(Refusal),
+}
+
+// An image's length, and its number of chunks.
+struct Extent {
+    bytes: usize,
+    chunks: u32,
+}
+
+// The total size of a chunk of a kind over n bytes.
+fn chunk_size(kind: u64, n: usize) -> usize
+    requires { ⌜ (0 < kind) × (n ≤ 2147483648) ⌝ }
+    ensures { λ r. ⌜ (r ≡ size kind n) × (r ≤ 16 + n) ⌝ }
+{
+    if kind == 1 { 12 + n } else { 16 }
+}
+
+// The extent of the image of n blocks, found before a byte of it is stored.
+fn measure(flat: &[u8], block: usize, n: usize) -> Extent
+    requires { ⌜ (n * block ≤ length (now flat)) × (4 ≤ block) × (block % 4 ≡ 0) × (length (now flat) ≤ 2147483648) ⌝ }
+    ensures { λ r. ⌜ (r .bytes ≡ 28 + length (chunks block (now (flat .entry)) 0 (runsAt (storedKind (now (flat .entry)) block) block n 0)))
+        × (r .chunks ≡ length (runsAt (storedKind (now (flat .entry)) block) block n 0)) ⌝ }
+{
+    let mut bytes: usize = 28;
+    let mut count: u32 = 0;
+    let mut at: usize = 0;
+    let mut left = n;
+    let mut kind = first_kind(flat, block, n);
+    while 0 < left {
+        let r = run(flat, block, at, left, kind);
+        let blocks = r.blocks;
+        let len = blocks * block;
+        bytes = bytes + chunk_size(kind, len);
+        count = count + 1;
+        at = at + len;
+        left = left - blocks;
+        kind = r.next;
+    }
+    Extent {
+        bytes,
+        chunks: count,
+    }
+}
+
+// The chunks of n blocks, after the file header, and the checksum's state after their bytes.
+fn put_chunks(out: &mut [u8], flat: &[u8], block: usize, n: usize) -> u32
+    requires { ⌜ (28 + length (chunks block (now flat) 0 (runsAt (storedKind (now flat) block) block n 0)) ≤ length (now out))
+        × (n * block ≡ length (now flat)) × (4 ≤ block) × (block % 4 ≡ 0) × (length (now flat) ≤ 2147483648) ⌝ }
+    ensures { λ r. ⌜ (r ≡ crcFrom ones (now (flat .entry)))
+        × (now (out .exit) ≡ sets (now (out .entry)) 28 (chunks block (now (flat .entry)) 0 (runsAt (storedKind (now (flat .entry)) block) block n 0))) ⌝ }
+{
+    let mut state = crc32::start();
+    let mut pos: usize = 28;
+    let mut at: usize = 0;
+    let mut left = n;
+    let mut kind = first_kind(flat, block, n);
+    while 0 < left {
+        let r = run(flat, block, at, left, kind);
+        let blocks = r.blocks;
+        let len = blocks * block;
+        let end = at + len;
+        state = put_chunk(out, pos, &flat[at..end], kind, blocks as u32, state);
+        pos = pos + chunk_size(kind, len);
+        at = end;
+        left = left - blocks;
+        kind = r.next;
+    }
+    state
+}
+
+// Whether a block size is a multiple of 4 from 4 to 65,536.
+fn block_right(block: u32) -> bool
+    ensures { λ r. ⌜ r ≡ blockSizeRight block ⌝ }
+{
+    (4 <= block) & (block <= 65536) & (block % 4 == 0)
+}
+
+// Whether flat data of n bytes are too long, or not whole blocks.
+fn length_wrong(n: usize, block: usize) -> bool
+    requires { ⌜ 0 < block ⌝ }
+    ensures { λ r. ⌜ r ≡ lengthWrong n block ⌝ }
+{
+    (2147483648 < n) | (n % block != 0)
+}
+
+// A refusal by its number, at place 0.
+fn refused(number: u32) -> Outcome
+    ensures { λ r. ⌜ r ≡ Outcome.Refused (record { number = number; place = 0 }) ⌝ }
+{
+    Outcome::Refused(Refusal { number, place: 0 })
+}
+
+// Writes the sparse image of flat data at a block size into `out`, and answers its length.
+pub fn write(flat: &[u8], block_size: u32, out: &mut [u8]) -> Outcome
+    ensures { λ r. ⌜ (answerOf r ≡ answer (now (flat .entry)) «block_size» (length (now (out .entry))))
+        × (now (out .exit) ≡ output (now (flat .entry)) «block_size» (now (out .entry))) ⌝ }
+{
+    if !block_right(block_size) {
+        return refused(5);
+    }
+    let block = block_size as usize;
+    if length_wrong(flat.len(), block) {
+        return refused(13);
+    }
+    let n = flat.len() / block;
+    let m = measure(flat, block, n);
+    if out.len() < m.bytes {
+        return refused(12);
+    }
+    let state = put_chunks(out, flat, block, n);
+    put_header(out, block_size, n as u32, m.chunks, crc32::finish(state));
+    Outcome::Written(m.bytes)
+}

@@ -1,0 +1,38 @@
+-- What an example calls, and what comes back: each by the definition that the function's contract names.
+-- Assumes nothing.
+use mathlib.Core.List.{List}
+use Prim.Native.Nat.{ℕ}
+use lib.ListN.{length}
+use Rattle.slots.specs.declared.Record.{Record}
+use Rattle.slots.specs.Answers.{Change}
+use Rattle.slots.specs.Operations.{startOf}
+use Rattle.bootimg.specs.Tests.{Saying, saying}
+use Rattle.sparse.specs.Answers as judge
+use Rattle.sparse_store.specs.Store as store
+use Rattle.sparse_write.specs.Write as write
+
+-- a call: an image stored on what a partition holds, flat bytes written at a block size into what an output holds, a boot image located, a slot record started
+pub data Call : Type 0 where
+  stores : List ℕ → List ℕ → Call
+  writes : List ℕ → ℕ → List ℕ → Call
+  locates : List ℕ → Call
+  starts : Record → Call
+
+-- what comes back: the answer, and the contents of what was lent
+pub data Result : Type 0 where
+  stored : judge.Answer → List ℕ → Result
+  written : write.Answer → List ℕ → Result
+  located : Saying → Result
+  started : Change → Result
+
+-- what a call gives back
+unfoldable pub perform : Call → Result
+perform (stores s p) = stored (judge.answer s (length s) (length p)) (store.store s p)
+perform (writes d b out) = written (write.answer d b (length out)) (write.output d b out)
+perform (locates s) = located (saying s)
+perform (starts r) = started (startOf r)
+
+-- a row of the table: a call, and what must come back
+pub record Row : Type 0 where
+  pub call : Call
+  pub result : Result

@@ -1,0 +1,95 @@
+-- The images, flat bytes and records of the examples, typed from document 01.
+-- Assumes nothing.
+use mathlib.Core.Bool.{Bool, true, false}
+use mathlib.Core.List.{List, [], _∷_, _++_}
+use Prim.Native.Nat.{ℕ, zero, suc, _-_}
+use lib.ListN.{replicate}
+use Rattle.fields.specs.Le.{bytes}
+use Rattle.slots.specs.declared.Slot.{Slot}
+use Rattle.slots.specs.declared.Record.{Record}
+use Rattle.bootimg.specs.declared.Section.{Section}
+use Rattle.bootimg.specs.Tests.{Saying}
+
+-- P1: "`3A FF 26 ED 01 00 00 00 1C 00 0C 00 00 10 00 00` and twelve zero bytes"
+abbrev pub emptyImage : List ℕ
+emptyImage =
+    0x3A ∷ 0xFF ∷ 0x26 ∷ 0xED ∷ 0x01 ∷ 0x00 ∷ 0x00 ∷ 0x00 ∷ 0x1C ∷ 0x00 ∷ 0x0C ∷ 0x00 ∷ 0x00 ∷ 0x10 ∷ 0x00 ∷ 0x00
+    ∷ replicate 12 0
+
+-- a file header: block size, total blocks, chunks, checksum; sizes 28 and 12, version 1.0
+abbrev pub fileHeader : ℕ → ℕ → ℕ → ℕ → List ℕ
+fileHeader block total chunks sum =
+    bytes 4 0xED26FF3A
+    ++ (bytes 2 1 ++ (bytes 2 0 ++ (bytes 2 28 ++ (bytes 2 12 ++ (bytes 4 block ++ (bytes 4 total ++ (bytes 4 chunks ++ bytes 4 sum)))))))
+
+-- a chunk header: type, reserved 0, blocks, total size
+abbrev pub chunkHeader : ℕ → ℕ → ℕ → List ℕ
+chunkHeader type blocks size = bytes 2 type ++ (bytes 2 0 ++ (bytes 4 blocks ++ bytes 4 size))
+
+-- P2: "block size 4, total 3, two chunks: fill 1 block with `FF FF FF FF`, don't care 2 blocks", with another total, second type or checksum in P4, P5, P7 and P8
+abbrev pub twoChunks : ℕ → ℕ → ℕ → List ℕ
+twoChunks total second sum =
+    fileHeader 4 total 2 sum ++ (chunkHeader 0xCAC2 1 16 ++ (replicate 4 0xFF ++ chunkHeader second 2 12))
+
+-- P2
+abbrev pub p2 : List ℕ
+p2 = twoChunks 3 0xCAC3 0xFFFFFFFF
+
+-- a partition or an output of so many bytes that are told apart: 1, 2, 3 and so on
+abbrev pub upFrom : ℕ → ℕ → List ℕ
+upFrom i zero = []
+upFrom i (suc n) = i ∷ upFrom (suc i) n
+
+-- P9: "flat `FF FF FF FF` and twelve zero bytes"
+abbrev pub flat : List ℕ
+flat = replicate 4 0xFF ++ replicate 12 0
+
+-- P9: "one raw chunk, one fill chunk, checksum 0xFFFFFFFF, 64 bytes"
+abbrev pub flatImage : List ℕ
+flatImage =
+    fileHeader 8 2 2 0xFFFFFFFF
+    ++ (chunkHeader 0xCAC1 1 20 ++ (replicate 4 0xFF ++ (replicate 4 0 ++ (chunkHeader 0xCAC2 1 16 ++ replicate 4 0))))
+
+-- P10: "version 3, kernel 4,097, ramdisk 1", of so many bytes
+abbrev pub boot3 : ℕ → List ℕ
+boot3 n =
+    (0x41 ∷ 0x4E ∷ 0x44 ∷ 0x52 ∷ 0x4F ∷ 0x49 ∷ 0x44 ∷ 0x21 ∷ [])
+    ++ (bytes 4 4097 ++ (bytes 4 1 ++ (replicate 4 0 ++ (bytes 4 1580 ++ (replicate 16 0 ++ (bytes 4 3 ++ replicate (n - 44) 0))))))
+
+-- P11: "version 2, page 2,048, kernel 2,048, ramdisk 1, dtb 1, others 0"
+abbrev pub boot2 : List ℕ
+boot2 =
+    (0x41 ∷ 0x4E ∷ 0x44 ∷ 0x52 ∷ 0x4F ∷ 0x49 ∷ 0x44 ∷ 0x21 ∷ [])
+    ++ (bytes 4 2048
+    ++ (replicate 4 0
+    ++ (bytes 4 1
+    ++ (replicate 16 0
+    ++ (bytes 4 2048 ++ (bytes 4 2 ++ (replicate 1600 0 ++ (bytes 4 1660 ++ (bytes 4 1 ++ replicate 4493 0)))))))))
+
+-- a section of the version: position, size
+abbrev pub section : ℕ → ℕ → Section
+section position size = record { present = true; position = position; size = size }
+
+-- a section that the version lacks
+abbrev pub none : Section
+none = record { present = false; position = 0; size = 0 }
+
+-- an accepted boot image: its version and sections
+abbrev pub found : ℕ → List Section → Saying
+found version sections = record { number = 0; place = 0; version = version; sections = sections }
+
+-- a refused boot image: the number
+abbrev pub refused : ℕ → Saying
+refused n = record { number = n; place = 0; version = 0; sections = [] }
+
+-- a slot in use: unbootable, successful, tries
+abbrev pub slot : Bool → Bool → ℕ → Slot
+slot unbootable successful tries = record { used = true; unbootable = unbootable; successful = successful; tries = tries }
+
+-- a place that is not used
+abbrev pub unused : Slot
+unused = record { used = false; unbootable = false; successful = false; tries = 0 }
+
+-- a record of two slots, a and b
+abbrev pub two : ℕ → Slot → Slot → Record
+two current a b = record { slots = a ∷ b ∷ unused ∷ unused ∷ []; current = current }
