@@ -10,13 +10,15 @@ use Rattle.bootimg.specs.Tests.{Saying, saying}
 use Rattle.sparse.specs.Answers as judge
 use Rattle.sparse_store.specs.Store as store
 use Rattle.sparse_write.specs.Write as write
+use Rattle.listing.specs.Text.{text}
 
--- a call: an image stored on what a partition holds, flat bytes written at a block size into what an output holds, a boot image located, a slot record started
+-- a call: an image stored on what a partition holds, flat bytes written at a block size into what an output holds, a boot image located, a slot record started, an image listed
 pub data Call : Type 0 where
   stores : List ℕ → List ℕ → Call
   writes : List ℕ → ℕ → List ℕ → Call
   locates : List ℕ → Call
   starts : Record → Call
+  lists : List ℕ → Call
 
 -- what comes back: the answer, and the contents of what was lent
 pub data Result : Type 0 where
@@ -24,6 +26,7 @@ pub data Result : Type 0 where
   written : write.Answer → List ℕ → Result
   located : Saying → Result
   started : Change → Result
+  listed : List ℕ → Result
 
 -- what a call gives back
 unfoldable pub perform : Call → Result
@@ -31,6 +34,7 @@ perform (stores s p) = stored (judge.answer s (length s) (length p)) (store.stor
 perform (writes d b out) = written (write.answer d b (length out)) (write.output d b out)
 perform (locates s) = located (saying s)
 perform (starts r) = started (startOf r)
+perform (lists s) = listed (text s)
 
 -- a row of the table: a call, and what must come back
 pub record Row : Type 0 where

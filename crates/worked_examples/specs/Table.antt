@@ -7,7 +7,8 @@ use lib.ListN.{replicate}
 use Rattle.slots.specs.Answers as slots
 use Rattle.sparse.specs.Answers.{counts, refusedWith}
 use Rattle.sparse_write.specs.Write as write
-use Rattle.worked_examples.specs.Calls.{Row, stores, writes, locates, starts, stored, written, located, started}
+use Rattle.listing.specs.Words.{ascii}
+use Rattle.worked_examples.specs.Calls.{Row, stores, writes, locates, starts, lists, stored, written, located, started, listed}
 use Rattle.worked_examples.specs.Images.{emptyImage, twoChunks, p2, upFrom, flat, flatImage, boot3, boot2, section, none, found, refused, slot, two}
 
 -- P1: "writing 0 bytes at block size 4,096"
@@ -94,7 +95,15 @@ row14 =
       result = started (slots.change (slots.starts 0) (two 0 (slot false false 0) (slot false false 3)));
     }
 
--- P1 to P14
+-- the lister: "For P2 it prints exactly"
+abbrev pub rowListed : Row
+rowListed =
+    record {
+      call = lists p2;
+      result = listed (ascii "block 4 total 3 chunks 2\n0 fill 1\n1 skip 2\nok written 1 skipped 2\n");
+    }
+
+-- P1 to P14, and the lister's text
 abbrev pub table : List Row
 table =
-    row1 ∷ row2 ∷ row3 ∷ row4 ∷ row5 ∷ row6 ∷ row7 ∷ row8 ∷ row9 ∷ row9Short ∷ row10 ∷ row10Short ∷ row11 ∷ row12 ∷ row13 ∷ row14 ∷ []
+    row1 ∷ row2 ∷ row3 ∷ row4 ∷ row5 ∷ row6 ∷ row7 ∷ row8 ∷ row9 ∷ row9Short ∷ row10 ∷ row10Short ∷ row11 ∷ row12 ∷ row13 ∷ row14 ∷ rowListed ∷ []

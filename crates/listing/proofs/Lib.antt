@@ -1,0 +1,5 @@
+pub mod Putting
+pub mod Digits
+pub mod Chunks
+pub mod Texts
+pub mod Room

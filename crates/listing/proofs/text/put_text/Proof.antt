@@ -1,0 +1,73 @@
+-- `listing::text::put_text` meets its contract.
+-- Assumes nothing.
+use mathlib.Core.Path.{sym, ap, _∙_}
+use borrow.Author.Needs.{needs}
+use Rattle.sparse.specs.Answers.{answerOf}
+use Rattle.listing.specs.Lines.{tooLong}
+use Rattle.listing.proofs.Texts.{text-long, text-refused, text-accepted}
+use Rattle.listing.proofs.text.put_text.Statement.{statement}
+use Rattle.listing.proofs.text.put_text.Tie as tie
+
+slice-aggregate-put : tie.Need-slice-aggregate-put
+slice-aggregate-put c = search needs
+
+put-requires : tie.Need-put-requires
+put-requires c κs = search needs
+
+same-length : tie.Need-same-length
+same-length c = search needs
+
+returns : tie.Need-returns
+unfolding tooLong
+returns c = rw (text-long _ (c .before .before .before .before .before .if1 .taken)) (c .before .before .put .ensures)
+
+judge-requires : tie.Need-judge-requires
+judge-requires c κs = search needs
+
+enum-known-verdict : tie.Need-enum-known-verdict
+enum-known-verdict c = search needs
+
+put-accepted-requires : tie.Need-put-accepted-requires
+put-accepted-requires c κs = search needs
+
+enum-known-verdict-2 : tie.Need-enum-known-verdict-2
+enum-known-verdict-2 c = search needs
+
+put-refused-requires : tie.Need-put-refused-requires
+put-refused-requires c κs = search needs
+
+same-length-2 : tie.Need-same-length-2
+same-length-2 c = search needs
+
+returns-2 : tie.Need-returns-2
+returns-2 c =
+    let g = c .before .before .before .before .before .verdict .given in
+    let t = text-accepted _ (c .before .before .before .before .before .before .before .before .if1 .left) (g .0 .0) (g .0 .1 .0) (sym (ap answerOf (g .1)) ∙ c .before .before .before .before .before .before .before .judge .ensures) in
+    rw (t .2) (c .before .before .put-accepted .ensures (t .0) (t .1))
+
+same-length-3 : tie.Need-same-length-3
+same-length-3 c = search needs
+
+returns-3 : tie.Need-returns-3
+returns-3 c =
+    let g = c .before .before .before .before .before .verdict2 .given in
+    rw (text-refused _ (c .before .before .before .before .before .before .before .before .if1 .left) (g .0 .0 .number) (g .0 .0 .place) (sym (ap answerOf (g .1)) ∙ c .before .before .before .before .before .before .before .judge .ensures))
+    (c .before .before .put-refused .ensures)
+
+pub put-text-spec : {M : Type 1} → statement M
+put-text-spec =
+    tie.close
+    (tie.spec
+    slice-aggregate-put
+    put-requires
+    same-length
+    returns
+    judge-requires
+    enum-known-verdict
+    put-accepted-requires
+    enum-known-verdict-2
+    put-refused-requires
+    same-length-2
+    returns-2
+    same-length-3
+    returns-3)
