@@ -9,9 +9,10 @@ they are; a buffer that is only read must stay too.  Prints one line,
 `differential: N calls agree`; at the first difference it shows that case instead
 and ends with 1, also when a call crashes or does not end.
 
-A function of the library takes its arguments in order, then the numbers it
-answers with: `uint64_t *out, size_t out_len`.  Bytes are a pointer and a length.
-It returns 0 or the number of its refusal.
+A function of the library takes its arguments in order, then a pointer to the
+numbers it answers with, whose count is fixed.  Bytes are a pointer and a length,
+a slot record is a pointer to its 17 bytes.  It returns 0 or the number of its
+refusal.  include/tarpaulark.h has the declarations.
 """
 
 import argparse
@@ -47,6 +48,8 @@ LONGEST_WAIT = 120
 EDGES = (0, 1, 2, 3, 4, 7, 8, 11, 12, 13, 16, 28, 255, 256, 65532, 65535, 65536, 65540)
 EDGES += tuple(2**k + d for k in (30, 31, 32) for d in (-4, -1, 0, 1) if 2**k + d < 2**32)
 ROOM = 2**64 - 1
+RECORD_LENGTH = 17
+REFUSED = 3
 
 Argument = Union[bytes, int]
 
@@ -62,8 +65,9 @@ class Call(NamedTuple):
 
 
 class Function(NamedTuple):
-    """A function of the library: its arguments' types (`bytes` or a number's width
-    in bits), how many numbers it answers, and the maker of its cases."""
+    """A function of the library: its arguments' types (`bytes`, `record` or a
+    number's width in bits), how many numbers it answers, and the maker of its
+    cases."""
 
     name: str
     types: Tuple[Union[str, int], ...]
@@ -106,9 +110,11 @@ def signature(function: Function) -> List[Any]:
     for kind in function.types:
         if kind == "bytes":
             types += [ctypes.c_void_p, ctypes.c_size_t]
+        elif kind == "record":
+            types.append(ctypes.c_void_p)
         else:
             types.append(NUMBER_TYPES[int(kind)])
-    return types + [ctypes.c_void_p, ctypes.c_size_t]
+    return types + [ctypes.c_void_p]
 
 
 def as_number_array(data: bytes) -> Tuple[int, ...]:
@@ -122,12 +128,13 @@ def fault_of(foreign: Any, function: Function, call: Call, rng: random.Random) -
     out = Guarded(OUT_BYTE * (8 * function.answers), 0)
     values: List[int] = []
     buffers = iter(lent)
-    for item in call.arguments:
+    for kind, item in zip(function.types, call.arguments):
         if isinstance(item, bytes):
-            values += [next(buffers).address(), len(item)]
+            values.append(next(buffers).address())
+            values += [len(item)] if kind == "bytes" else []
         else:
             values.append(item)
-    number = foreign(*values, out.address(), function.answers)
+    number = foreign(*values, out.address())
     if number != call.number:
         return f"number {number}, expected {call.number}"
     found = as_number_array(out.data())
@@ -287,19 +294,39 @@ def locate_call(rng: random.Random) -> Call:
     return Call((image,), number, tuple(out), (image,))
 
 
+def no_record(rng: random.Random, given: bytes) -> bytes:
+    """A record's bytes with a flag, or several, that is neither 0 nor 1."""
+    for _ in range(1 + below(rng, 3)):
+        flag_at = 4 * below(rng, PLACES) + below(rng, 3)
+        flag = pick(rng, (2, 3, 128, 255, 2 + below(rng, 254)))
+        given = build.with_bytes(given, flag_at, bytes([flag]))
+    return given
+
+
+def fresh_call(rng: random.Random) -> Call:
+    """`slots_fresh`: kind and started slot; the record is made, whatever stood there."""
+    slots = pick(rng, (0, 1, 2, 3, 4, 5, rng.getrandbits(8)))
+    number, kind, started, *after = cases_slots.values(
+        cases_slots.Case(cases_slots.FRESH, slots, any_record(rng))
+    )
+    return Call((slots, some_bytes(rng, RECORD_LENGTH)), number, (kind, started), (bytes(after),))
+
+
 def slots_call(operation: int, takes_slot: bool) -> Callable[[random.Random], Call]:
-    """A slot operation: kind (0 done, 1 boots, 2 recovery, 3 refused) and the
-    started slot; the record of 17 bytes is updated."""
+    """A slot operation: kind (0 done, 1 starts, 2 recovery, 3 refused) and the
+    started slot; the record of 17 bytes is updated.  Bytes that are no record
+    give 31 and stay."""
     def make(rng: random.Random) -> Call:
         record = any_record(rng)
         slot = pick(rng, (0, 1, 2, 3, 4, 5, rng.getrandbits(8))) if takes_slot else 0
+        given = bytes(cases_slots.record_values(record))
         number, kind, started, *after = cases_slots.values(
             cases_slots.Case(operation, slot, record)
         )
-        given = bytes(cases_slots.record_values(record))
+        if below(rng, 4) == 0:
+            given = no_record(rng, given)
+            number, kind, started, after = 31, REFUSED, 0, list(given)
         arguments: Tuple[Argument, ...] = (given, slot) if takes_slot else (given,)
-        if operation == cases_slots.FRESH:
-            arguments = (slot, given)
         return Call(arguments, number, (kind, started), (bytes(after),))
     return make
 
@@ -310,11 +337,11 @@ FUNCTIONS = (
     Function("store_limited", ("bytes", "bytes", 64), 2, store_limited_call),
     Function("write", ("bytes", 32, "bytes"), 2, write_call),
     Function("locate", ("bytes",), 19, locate_call),
-    Function("slots_fresh", (8, "bytes"), 2, slots_call(cases_slots.FRESH, True)),
-    Function("slots_start", ("bytes",), 2, slots_call(cases_slots.START, False)),
-    Function("slots_set_active", ("bytes", 8), 2, slots_call(cases_slots.SET_ACTIVE, True)),
-    Function("slots_modified", ("bytes", 8), 2, slots_call(cases_slots.MODIFIED, True)),
-    Function("slots_confirm", ("bytes",), 2, slots_call(cases_slots.CONFIRM, False)),
+    Function("slots_fresh", (8, "record"), 2, fresh_call),
+    Function("slots_start", ("record",), 2, slots_call(cases_slots.START, False)),
+    Function("slots_set_active", ("record", 8), 2, slots_call(cases_slots.SET_ACTIVE, True)),
+    Function("slots_modified", ("record", 8), 2, slots_call(cases_slots.MODIFIED, True)),
+    Function("slots_confirm", ("record",), 2, slots_call(cases_slots.CONFIRM, False)),
 )
 
 

@@ -1,0 +1,4 @@
+pub mod Layouts
+pub mod Bytes
+pub mod Promises
+pub mod Numbered

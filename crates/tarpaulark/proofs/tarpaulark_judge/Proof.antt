@@ -1,0 +1,22 @@
+-- `tarpaulark::tarpaulark_judge` meets its contract. Assumes nothing.
+use mathlib.Core.Path.{ap, _∙_}
+use borrow.Author.Needs.{needs}
+use Rattle.tarpaulark.specs.Numbers.{numberOf, countsOf}
+use Rattle.tarpaulark.proofs.tarpaulark_judge.Statement.{statement}
+use Rattle.tarpaulark.proofs.tarpaulark_judge.Tie as tie
+
+judge-requires : tie.Need-judge-requires
+judge-requires c κs = search needs
+
+verdict-answer-requires : tie.Need-verdict-answer-requires
+verdict-answer-requires c κs = search needs
+
+verdict-number-requires : tie.Need-verdict-number-requires
+verdict-number-requires c κs = search needs
+
+returns : tie.Need-returns
+returns c = (c .verdict-number .ensures ∙ ap numberOf (c .before .before .judge .ensures), c .before .verdict-answer .ensures ∙ ap countsOf (c .before .before .judge .ensures))
+
+pub tarpaulark-judge-spec : {M : Type 1} → statement M
+tarpaulark-judge-spec =
+    tie.close (tie.spec judge-requires verdict-answer-requires verdict-number-requires returns)

@@ -1,0 +1,22 @@
+-- `tarpaulark::tarpaulark_locate` meets its contract. Assumes nothing.
+use mathlib.Core.Path.{ap, _∙_}
+use borrow.Author.Needs.{needs}
+use Rattle.tarpaulark.specs.Numbers.{locatedNumber, layoutOf}
+use Rattle.tarpaulark.proofs.tarpaulark_locate.Statement.{statement}
+use Rattle.tarpaulark.proofs.tarpaulark_locate.Tie as tie
+
+locate-requires : tie.Need-locate-requires
+locate-requires c κs = search needs
+
+located-answer-requires : tie.Need-located-answer-requires
+located-answer-requires c κs = search needs
+
+located-number-requires : tie.Need-located-number-requires
+located-number-requires c κs = search needs
+
+returns : tie.Need-returns
+returns c = (c .located-number .ensures ∙ ap locatedNumber (c .before .before .locate .ensures .0), c .before .located-answer .ensures ∙ ap layoutOf (c .before .before .locate .ensures .0))
+
+pub tarpaulark-locate-spec : {M : Type 1} → statement M
+tarpaulark-locate-spec =
+    tie.close (tie.spec locate-requires located-answer-requires located-number-requires returns)

@@ -1,0 +1,13 @@
+-- `tarpaulark::tarpaulark_slots_confirm` meets its contract. Assumes nothing.
+use borrow.Author.Needs.{needs}
+use Rattle.tarpaulark.proofs.tarpaulark_slots_confirm.Statement.{statement}
+use Rattle.tarpaulark.proofs.tarpaulark_slots_confirm.Tie as tie
+
+operate-requires : tie.Need-operate-requires
+operate-requires c κs = search needs
+
+returns : tie.Need-returns
+returns c = (cc, cc, cc)
+
+pub tarpaulark-slots-confirm-spec : {M : Type 1} → statement M
+tarpaulark-slots-confirm-spec = tie.close (tie.spec operate-requires returns)

@@ -1,0 +1,26 @@
+-- `tarpaulark::tarpaulark_store_limited` meets its contract. Assumes nothing.
+use mathlib.Core.Path.{ap, _∙_}
+use borrow.Author.Needs.{needs}
+use Rattle.tarpaulark.specs.Numbers.{cutNumberOf, cutCountsOf}
+use Rattle.tarpaulark.proofs.tarpaulark_store_limited.Statement.{statement}
+use Rattle.tarpaulark.proofs.tarpaulark_store_limited.Tie as tie
+
+store-limited-requires : tie.Need-store-limited-requires
+store-limited-requires c κs = search needs
+
+cut-answer-requires : tie.Need-cut-answer-requires
+cut-answer-requires c κs = search needs
+
+cut-number-requires : tie.Need-cut-number-requires
+cut-number-requires c κs = search needs
+
+same-length : tie.Need-same-length
+same-length c = search needs
+
+returns : tie.Need-returns
+returns c = (c .cut-number .ensures ∙ ap cutNumberOf (c .before .before .before .before .store-limited .ensures .0), c .before .cut-answer .ensures ∙ ap cutCountsOf (c .before .before .before .before .store-limited .ensures .0), c .before .before .before .before .store-limited .ensures .1)
+
+pub tarpaulark-store-limited-spec : {M : Type 1} → statement M
+tarpaulark-store-limited-spec =
+    tie.close
+    (tie.spec store-limited-requires cut-answer-requires cut-number-requires same-length returns)

@@ -1,0 +1,26 @@
+-- `tarpaulark::tarpaulark_write` meets its contract. Assumes nothing.
+use mathlib.Core.Path.{ap, _∙_}
+use borrow.Author.Needs.{needs}
+use Rattle.tarpaulark.specs.Numbers.{writtenNumber, writtenOf}
+use Rattle.tarpaulark.proofs.tarpaulark_write.Statement.{statement}
+use Rattle.tarpaulark.proofs.tarpaulark_write.Tie as tie
+
+write-requires : tie.Need-write-requires
+write-requires c κs = search needs
+
+written-answer-requires : tie.Need-written-answer-requires
+written-answer-requires c κs = search needs
+
+written-number-requires : tie.Need-written-number-requires
+written-number-requires c κs = search needs
+
+same-length : tie.Need-same-length
+same-length c = search needs
+
+returns : tie.Need-returns
+returns c = (c .written-number .ensures ∙ ap writtenNumber (c .before .before .before .before .write .ensures .0), c .before .written-answer .ensures ∙ ap writtenOf (c .before .before .before .before .write .ensures .0), c .before .before .before .before .write .ensures .1)
+
+pub tarpaulark-write-spec : {M : Type 1} → statement M
+tarpaulark-write-spec =
+    tie.close
+    (tie.spec write-requires written-answer-requires written-number-requires same-length returns)
