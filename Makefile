@@ -1,5 +1,6 @@
 # make: the host tool, over the proved library. make demo: an update with power cuts, shown.
 # make test: the tool and the library against examples and the reference.
+# make peers: the same images through Debian's tools. make bench: speed, as ratios.
 ifeq ($(origin CC),default)
 CC = gcc
 endif
@@ -10,7 +11,7 @@ RT ?= rt
 LIBRARY = target/staticlib/libtarpaulark.a
 PROVED = crates.txt $(shell find crates \( -name '*.rt' -o -name '*.antt' \) -not -path '*/must-fail/*')
 
-.PHONY: all demo test clean
+.PHONY: all demo test peers bench clean
 all: build/tarpaulark
 
 $(LIBRARY): $(PROVED)
@@ -33,6 +34,14 @@ demo: build/tarpaulark
 test: build/tarpaulark build/libtarpaulark.so
 	$(PYTHON) tests/host.py build/tarpaulark
 	$(PYTHON) tests/differential.py build/libtarpaulark.so
+
+# Images and boot images that Debian's tools make or read, where they are installed.
+peers: build/tarpaulark
+	bash tests/peers.sh
+
+# A table of ratios to a plain copy, to zlib's checksum and to Debian's tools.
+bench: $(LIBRARY)
+	bash bench/run
 
 clean:
 	rm -rf build

@@ -8,3 +8,4 @@ pub mod Refusals
 pub mod Tally
 pub mod Sums
 pub mod Verdicts
+pub mod Image

@@ -24,7 +24,7 @@ use Rattle.sparse_store.specs.Runs.{Cut, inside as inside-image}
 use Rattle.sparse_store.specs.Blocks.{isStored, stores, storedBefore, blockAt, CutState}
 use Rattle.sparse_store.proofs.Over.{getD-over, torn-none, torn-new, torn-next, torn-held}
 use Rattle.sparse_store.proofs.Restart.{length-store, store-at, length-cut}
-use Rattle.sparse_store.proofs.Image.{effect-accepted}
+use Rattle.sparse.proofs.Image.{effect-accepted}
 use Rattle.sparse_store.proofs.Whole.{Whole, cells-whole, getD-some, getD-none, stored-block, kept-block, count-block}
 
 -- ---- a block's bytes

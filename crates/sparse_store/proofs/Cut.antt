@@ -17,7 +17,7 @@ use Rattle.sparse.specs.Judge.{judged, effect}
 use Rattle.sparse.proofs.Cells.{count-cells}
 use Rattle.sparse_store.specs.Store.{over, torn, store, cutStore, storeUpTo}
 use Rattle.sparse_store.specs.Answers.{stored, cutAnswerFor, cutAnswer}
-use Rattle.sparse_store.proofs.Image.{effect-accepted, effect-refused}
+use Rattle.sparse.proofs.Image.{effect-accepted, effect-refused}
 use Rattle.sparse_store.proofs.Over.{length-over, over-twice, torn-all, count-torn}
 
 -- "Refusals store nothing"

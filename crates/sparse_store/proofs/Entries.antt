@@ -17,7 +17,7 @@ use Rattle.sparse.specs.Answers.{counts, refusedWith, answer}
 use Rattle.sparse_store.specs.Store.{store, storeUpTo}
 use Rattle.sparse_store.specs.Answers.{stored, refusedWith as cutRefused, cutAnswerFor, cutAnswer}
 use Rattle.sparse_store.specs.Lent.{Storable}
-use Rattle.sparse_store.proofs.Image.{answer-accepted, answer-refused}
+use Rattle.sparse.proofs.Image.{answer-accepted, answer-refused}
 use Rattle.sparse_store.proofs.Cut.{limit-whole, refused-stores-nothing, refused-cut-nothing}
 
 module _ (s p : List ℕ) where

@@ -16,11 +16,11 @@ use Rattle.sparse.specs.Cells.{tab, rawByte, fillByte, cellsBy, writes}
 use Rattle.sparse.proofs.Cells.{length-tab, cells-kept}
 use Rattle.sparse_store.specs.Store.{over}
 use Rattle.sparse_store.specs.Lent.{laid, Lent}
-use Rattle.sparse_store.proofs.Image.{raw-cells, fill-cells}
+use Rattle.sparse.proofs.Image.{raw-cells, fill-cells}
 use Rattle.sparse_store.proofs.Over.{over-kept}
 
--- bytes at the front
-over-front : (l p : List ℕ) → length l ≤ length p → over (map some l) p ≡ l ++ drop (length l) p
+-- stored cells laid over the front of a partition
+pub over-front : (l p : List ℕ) → length l ≤ length p → over (map some l) p ≡ l ++ drop (length l) p
 over-front [] p h = refl
 over-front (a ∷ l) [] h = absurd (not-suc-le-zero h)
 over-front (a ∷ l) (x ∷ xs) h = ap (λ (r : List ℕ). a ∷ r) (over-front l xs (le-of-suc-le-suc h))

@@ -1,4 +1,3 @@
-pub mod Image
 pub mod Over
 pub mod Restart
 pub mod Cut

@@ -17,7 +17,7 @@ use Rattle.sparse_store.specs.Store.{over, torn}
 use Rattle.sparse_store.specs.Lent.{laid}
 use Rattle.sparse_store.proofs.Over.{over-kept, over-then, torn-append, torn-some, torn-kept}
 use Rattle.sparse_store.proofs.Cut.{min-scaled}
-use Rattle.sparse_store.proofs.Image.{chunk-cells, raw-cells, fill-cells}
+use Rattle.sparse.proofs.Image.{chunk-cells, raw-cells, fill-cells}
 
 -- the first entries of a table
 take-tab : (f : ℕ → ℕ) (i m n : ℕ) → take m (tab f i n) ≡ tab f i (min m n)

@@ -23,7 +23,7 @@ use Rattle.sparse_store.specs.Store.{torn, cutStore, storeUpTo}
 use Rattle.sparse_store.specs.Lent.{laid, Lent, Storable}
 use Rattle.sparse_store.proofs.Over.{length-over}
 use Rattle.sparse_store.proofs.Lending.{kept-part}
-use Rattle.sparse_store.proofs.Image.{effect-accepted, chunks-walked}
+use Rattle.sparse.proofs.Image.{effect-accepted, chunks-walked}
 use Rattle.sparse_store.proofs.Tearing.{torn-zero, takes, laid-on}
 
 -- so many blocks are left to store, from a cursor on

@@ -23,7 +23,7 @@ use Rattle.sparse.specs.Judge.{structure, judged}
 use Rattle.sparse.proofs.Facts.{judged-accepted}
 use Rattle.sparse.proofs.Refusals.{header-passes}
 use Rattle.sparse.proofs.SumLaws.{sum-finish}
-use Rattle.sparse_store.proofs.Image.{effect-accepted}
+use Rattle.sparse.proofs.Image.{effect-accepted}
 use Rattle.sparse.proofs.Cells.{length-tab, tab-same, zeroed-append, zeroed-some, zeroed-none}
 use Rattle.sparse_write.specs.Blocks.{Block, cellsOf, blockCells, Bytes, Fits, AllFit, Whole}
 use Rattle.sparse_write.specs.Runs.{Run, runs}

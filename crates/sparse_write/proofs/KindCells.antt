@@ -17,7 +17,7 @@ use Rattle.sparse.specs.Cells.{tab, rawByte, fillByte, zeroed}
 use Rattle.sparse.proofs.Tests.{both}
 use Rattle.sparse.proofs.Cells.{length-tab, getD-tab, tab-same, tab-append, bytes-le, zeroed-some, zeroed-raw, zeroed-fill}
 use Rattle.sparse.proofs.SumLaws.{words}
-use Rattle.sparse_store.proofs.Image.{raw-cells, fill-cells}
+use Rattle.sparse.proofs.Image.{raw-cells, fill-cells}
 use Rattle.sparse_write.specs.Blocks.{Bytes}
 use Rattle.sparse_write.specs.Encode.{same, storedKind}
 use Rattle.sparse_write.specs.Scan.{Holds}

@@ -25,7 +25,7 @@ use Rattle.sparse.proofs.Walk.{walk-read, walk-over}
 use Rattle.sparse.proofs.Facts.{read-whole}
 use Rattle.sparse.proofs.Cells.{length-tab, getD-tab, tab-same, cells-nil, cells-cons, cells-kept}
 use Rattle.sparse.proofs.Refusals.{chunk-is}
-use Rattle.sparse_store.proofs.Image.{chunk-cells, raw-cells, fill-cells}
+use Rattle.sparse.proofs.Image.{chunk-cells, raw-cells, fill-cells}
 use Rattle.sparse_write.specs.Runs.{Run, spread}
 use Rattle.sparse_write.specs.Encode.{packed, typeOf, size, body, chunkHeader, chunk, chunks}
 use Rattle.sparse_write.proofs.Runs.{blocksOf}

@@ -21,6 +21,7 @@ use Rattle.sparse.specs.Judge.{effect}
 use Rattle.sparse.specs.Answers as judge
 use Rattle.sparse.proofs.Cells.{length-tab, zeroed-some, written-nil, written-cons, skipped-nil, skipped-cons}
 use Rattle.sparse_store.specs.Store.{over, store}
+use Rattle.sparse_store.proofs.Lending.{over-front}
 use Rattle.sparse_write.specs.Blocks.{Block, cellsOf, blockCells, blocksAt, flatBlocks, Bytes, Fits, AllFit, Whole}
 use Rattle.sparse_write.specs.Runs.{Run, runs, Longest, nothing, single, next}
 use Rattle.sparse_write.specs.Encode.{kindOf, packed, size, chunks, version, header, image, encode}
@@ -150,12 +151,6 @@ all-written s (k ∷ ks) a = let on = all-written s ks (a .1) in go (k .kind) re
     go Fill e h on = (written-cons k ks ∙ rw (e, on .0), skipped-cons k ks ∙ rw (e, on .1))
     go DontCare e h on = absurd (not-suc-le-zero (rw e at h))
     go Unknown e h on = absurd (not-suc-le-zero (rw e at h))
-
--- stored cells laid over a partition
-over-front : (l p : List ℕ) → length l ≤ length p → over (map some l) p ≡ l ++ drop (length l) p
-over-front [] p h = refl
-over-front (x ∷ l) [] h = absurd (not-suc-le-zero h)
-over-front (x ∷ l) (y ∷ p) h = ap (λ (r : List ℕ). x ∷ r) (over-front l p (le-of-suc-le-suc h))
 
 module _ (d : List ℕ) (b : ℕ) (small : Bytes d) (right : blockSizeRight b ≡ true) (fits : lengthWrong (length d) b ≡ false) where
   -- the blocks of flat data that the writer accepts can be encoded

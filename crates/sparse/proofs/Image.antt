@@ -1,4 +1,4 @@
--- The laws of the sparse format's definitions that storing goes by. No other file here looks into those definitions.
+-- What an answer says of an image, and what an accepted image gives: the laws that those who store, list or write images go by.
 -- Assumes nothing.
 use mathlib.Core.Path.{_≡_, refl, ap}
 use mathlib.Core.Option.{some}
