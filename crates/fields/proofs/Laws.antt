@@ -1,11 +1,11 @@
 -- Laws of fields, over every width: the bound of a field, fields of lists that are joined, and a number's bytes read back.
 -- Assumes nothing.
-use mathlib.Core.Path.{_≡_, refl, ap, _∙_}
+use mathlib.Core.Path.{_≡_, refl, ap}
 use mathlib.Core.List.{List, [], _∷_, _++_}
 use Prim.Native.Nat.{ℕ, zero, suc, _+_, _*_, _^_, _/_, _%_, _≤_, _<_}
 use native.Mathlib.Nat.{pow-suc, div-add-mod'}
 use native.Mathlib.Omega.{arith}
-use lib.ListN.{length, getD, List·getD-append, length-append}
+use lib.ListN.{length, getD, List·getD-append}
 use lib.Seq.{sets, getD-append-add}
 use borrow.Author.Tests.{le-leb, lt-leb}
 use Rattle.fields.specs.Le.{le, bytes, patched}

@@ -12,7 +12,7 @@ use sparse::Kind;
 use sparse::Refusal;
 
 // The line of a refusal.
-pub fn put_refused(out: &mut [u8], refusal: Refusal) -> usize
+pub(crate) fn put_refused(out: &mut [u8], refusal: Refusal) -> usize
     ensures { λ r. ⌜ Put (now (out .entry)) 0 (refusedLine (refusal .number) (refusal .place)) (now (out .exit)) r ⌝ }
 {
     let number = refusal.number as u64;
@@ -22,7 +22,7 @@ pub fn put_refused(out: &mut [u8], refusal: Refusal) -> usize
 }
 
 // The first line of an accepted image.
-pub fn put_header(out: &mut [u8], header: Header) -> usize
+pub(crate) fn put_header(out: &mut [u8], header: Header) -> usize
     ensures { λ r. ⌜ Put (now (out .entry)) 0 (headerLine header) (now (out .exit)) r × (r ≤ 128) ⌝ }
 {
     let block = header.block as u64;
@@ -48,7 +48,7 @@ fn put_kind(out: &mut [u8], at: usize, kind: Kind, n: u64) -> usize
 }
 
 // The line of a chunk whose first block is given.
-pub fn put_chunk(out: &mut [u8], at: usize, first: u32, chunk: Chunk) -> usize
+pub(crate) fn put_chunk(out: &mut [u8], at: usize, first: u32, chunk: Chunk) -> usize
     requires { ⌜ at < 0x800000000000 ⌝ }
     ensures { λ r. ⌜ Put (now (out .entry)) at (chunkLine first chunk) (now (out .exit)) r × (r ≤ at + 128) ⌝ }
 {
@@ -61,7 +61,7 @@ pub fn put_chunk(out: &mut [u8], at: usize, first: u32, chunk: Chunk) -> usize
 }
 
 // The last line of an accepted image.
-pub fn put_last(out: &mut [u8], at: usize, written: u32, skipped: u32) -> usize
+pub(crate) fn put_last(out: &mut [u8], at: usize, written: u32, skipped: u32) -> usize
     requires { ⌜ at < 0x800000000000 ⌝ }
     ensures { λ r. ⌜ Put (now (out .entry)) at (lastLine written skipped) (now (out .exit)) r ⌝ }
 {

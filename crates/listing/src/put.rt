@@ -6,7 +6,7 @@ ghost use Rattle.listing.specs.Words.{decimal};
 ghost use Rattle.listing.specs.Lines.{labelled};
 
 // Puts bytes, and answers the place after them.
-pub fn put(out: &mut [u8], at: usize, bytes: &[u8]) -> usize
+pub(crate) fn put(out: &mut [u8], at: usize, bytes: &[u8]) -> usize
     requires { ⌜ at + length (now bytes) < 0x10000000000000000 ⌝ }
     ensures { λ r. ⌜ Put (now (out .entry)) at (now (bytes .entry)) (now (out .exit)) r ⌝ }
 {
@@ -22,7 +22,7 @@ pub fn put(out: &mut [u8], at: usize, bytes: &[u8]) -> usize
 }
 
 // Puts a number's decimal digits, and answers the place after them.
-pub fn put_number(out: &mut [u8], at: usize, n: u64) -> usize
+pub(crate) fn put_number(out: &mut [u8], at: usize, n: u64) -> usize
     requires { ⌜ at + 20 < 0x10000000000000000 ⌝ }
     ensures { λ r. ⌜ Put (now (out .entry)) at (decimal n) (now (out .exit)) r × (r ≤ at + 20) ⌝ }
 {
@@ -32,7 +32,7 @@ pub fn put_number(out: &mut [u8], at: usize, n: u64) -> usize
 }
 
 // Puts a word and a number after it, and answers the place after both.
-pub fn put_labelled(out: &mut [u8], at: usize, word: &[u8], n: u64) -> usize
+pub(crate) fn put_labelled(out: &mut [u8], at: usize, word: &[u8], n: u64) -> usize
     requires { ⌜ at + length (now word) + 20 < 0x10000000000000000 ⌝ }
     ensures { λ r. ⌜ Put (now (out .entry)) at (labelled (now (word .entry)) n) (now (out .exit)) r × (r ≤ at + length (now (word .entry)) + 20) ⌝ }
 {

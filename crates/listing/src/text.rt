@@ -54,7 +54,7 @@ fn put_accepted(out: &mut [u8], input: &[u8], written: u32, skipped: u32) -> usi
 }
 
 // The text of an input, and the place after it.
-pub fn put_text(out: &mut [u8], input: &[u8]) -> usize
+pub(crate) fn put_text(out: &mut [u8], input: &[u8]) -> usize
     ensures { λ r. ⌜ Put (now (out .entry)) 0 (text (now (input .entry))) (now (out .exit)) r ⌝ }
 {
     if 65536 < input.len() {

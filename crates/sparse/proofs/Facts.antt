@@ -18,7 +18,7 @@ use Rattle.sparse.specs.Chunks.{typeAt, blocksAt, sizeAt, kindOf, sizeRi
 use Rattle.sparse.specs.Cells.{checksumOf}
 use Rattle.sparse.specs.Judge.{sumTests, summed, structure, judged}
 use Rattle.sparse.specs.Facts.{HeaderFacts, dataBytes, ChunkFacts, AcceptedFacts}
-use Rattle.sparse.proofs.Tests.{all-fail, both}
+use Rattle.rules.proofs.Tests.{all-fail, both}
 use Rattle.sparse.proofs.Walk.{unless-accepted, unless-passed, unless-refused}
 
 -- ---- the header

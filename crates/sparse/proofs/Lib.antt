@@ -1,4 +1,3 @@
-pub mod Tests
 pub mod Walk
 pub mod Facts
 pub mod Cells

@@ -18,7 +18,7 @@ use Rattle.sparse.specs.Cells.{written, skipped}
 use Rattle.sparse.specs.Judge.{structure, judged, effect, effectOf}
 use Rattle.sparse.specs.Answers.{answer, answerFor}
 use Rattle.sparse.specs.Theorems.{Sums, Unmoved}
-use Rattle.sparse.proofs.Tests.{all-fail}
+use Rattle.rules.proofs.Tests.{all-fail}
 use Rattle.sparse.proofs.Walk.{stepped, ended}
 use Rattle.sparse.proofs.Facts.{chunk-facts, header-passed, judged-accepted, accepted-facts}
 use Rattle.sparse.proofs.Cells.{written-nil, skipped-nil, blocks-cons, length-cells, count-cells}

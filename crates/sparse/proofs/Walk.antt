@@ -12,7 +12,7 @@ use Rattle.sparse.specs.declared.Header.{Header}
 use Rattle.sparse.specs.declared.Cursor.{Cursor}
 use Rattle.sparse.specs.declared.Chunk.{Chunk}
 use Rattle.sparse.specs.Chunks.{Reading, refusal, chunk, reading, Finding, refused, accepted, unless, more, onward, endTests, walk}
-use Rattle.sparse.proofs.Tests.{all-fail}
+use Rattle.rules.proofs.Tests.{all-fail}
 
 -- where the first test that applies has a number, it refuses; an accepted finding passed them all
 pub unless-accepted : (n place : ℕ) (f : Finding) (ks : List Chunk) → unless n place f ≡ accepted ks → (n ≡ 0) × (f ≡ accepted ks)

@@ -17,7 +17,7 @@ use Rattle.crc32.specs.Crc.{crcFrom, crc32, ones}
 use Rattle.crc32.proofs.Laws.{crc-finish}
 use Rattle.sparse.specs.Header.{blockSizeRight}
 use Rattle.sparse.specs.Cells.{tab, rawByte}
-use Rattle.sparse.proofs.Tests.{both}
+use Rattle.rules.proofs.Tests.{both}
 use Rattle.sparse.proofs.Cells.{getD-tab, zeroed-some}
 use Rattle.sparse_write.specs.Blocks.{blockCells, blocksAt, flatBlocks}
 use Rattle.sparse_write.specs.Encode.{same, storedKind, kindOf, packed, chunks, version, header, image, encode}

@@ -14,7 +14,7 @@ use Rattle.fields.specs.Le.{le, bytes}
 use Rattle.fields.proofs.Laws.{le-bound, le-bytes}
 use Rattle.crc32.specs.Power.{repeated}
 use Rattle.sparse.specs.Cells.{tab, rawByte, fillByte, zeroed}
-use Rattle.sparse.proofs.Tests.{both}
+use Rattle.rules.proofs.Tests.{both}
 use Rattle.sparse.proofs.Cells.{length-tab, getD-tab, tab-same, tab-append, bytes-le, zeroed-some, zeroed-raw, zeroed-fill}
 use Rattle.sparse.proofs.SumLaws.{words}
 use Rattle.sparse.proofs.Image.{raw-cells, fill-cells}

@@ -70,7 +70,14 @@ fn put_fill(out: &mut [u8], pos: usize, word: u32, blocks: u32)
 }
 
 // The chunk of so many blocks of a kind, and the state after their bytes.
-pub fn put_chunk(out: &mut [u8], pos: usize, src: &[u8], kind: u64, blocks: u32, state: u32) -> u32
+pub(crate) fn put_chunk(
+    out: &mut [u8],
+    pos: usize,
+    src: &[u8],
+    kind: u64,
+    blocks: u32,
+    state: u32,
+) -> u32
     requires { ⌜ (pos + size kind (length (now src)) ≤ length (now out))
         × (length (now src) ≤ 2147483648)
         × (kind < 4294967298)
@@ -99,7 +106,7 @@ fn put_version(out: &mut [u8])
 }
 
 // The file header.
-pub fn put_header(out: &mut [u8], block: u32, total: u32, chunks: u32, sum: u32)
+pub(crate) fn put_header(out: &mut [u8], block: u32, total: u32, chunks: u32, sum: u32)
     requires { ⌜ 28 ≤ length (now out) ⌝ }
     ensures { λ _. ⌜ now (out .exit) ≡ sets (now (out .entry)) 0 (header block total chunks sum) ⌝ }
 {

@@ -8,9 +8,9 @@ ghost use Rattle.sparse_write.specs.Encode.{storedKind};
 ghost use Rattle.sparse_write.specs.Scan.{leading, following, First};
 
 // So many blocks in front are of a kind, and the one after them is of the kind `next`, 0 where none is left.
-pub struct Stretch {
-    pub blocks: usize,
-    pub next: u64,
+pub(crate) struct Stretch {
+    pub(crate) blocks: usize,
+    pub(crate) next: u64,
 }
 
 // A byte, widened.
@@ -72,7 +72,7 @@ fn ahead(flat: &[u8], block: usize, from: usize, n: usize, kind: u64) -> Stretch
 }
 
 // The first run of n blocks from a place on, whose first block is of this kind.
-pub fn run(flat: &[u8], block: usize, at: usize, n: usize, kind: u64) -> Stretch
+pub(crate) fn run(flat: &[u8], block: usize, at: usize, n: usize, kind: u64) -> Stretch
     requires { ⌜ (at + n * block ≤ length (now flat))
         × (4 ≤ block)
         × (block % 4 ≡ 0)
@@ -88,7 +88,7 @@ pub fn run(flat: &[u8], block: usize, at: usize, n: usize, kind: u64) -> Stretch
 }
 
 // The kind of the first of n blocks, 0 where there is none.
-pub fn first_kind(flat: &[u8], block: usize, n: usize) -> u64
+pub(crate) fn first_kind(flat: &[u8], block: usize, n: usize) -> u64
     requires { ⌜ (n * block ≤ length (now flat)) × (4 ≤ block) × (block % 4 ≡ 0) ⌝ }
     ensures { λ r. ⌜ (0 < n → r ≡ storedKind (now (flat .entry)) block 0) ⌝ }
 {

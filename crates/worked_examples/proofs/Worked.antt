@@ -2,7 +2,6 @@
 -- Assumes nothing.
 use mathlib.Core.Path.{_≡_, refl}
 use mathlib.Core.List.{map}
-use Prim.Native.Nat.{ℕ}
 use lib.Count.{ones, onesIn}
 use Rattle.fields.specs.Le.{le}
 use Rattle.crc32.specs.Crc.{bit, steps, byteStep, crcFrom, crc32}

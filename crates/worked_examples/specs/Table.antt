@@ -2,7 +2,6 @@
 -- Assumes nothing.
 use mathlib.Core.Bool.{true, false}
 use mathlib.Core.List.{List, [], _∷_, _++_}
-use Prim.Native.Nat.{ℕ}
 use lib.ListN.{replicate}
 use Rattle.slots.specs.Answers as slots
 use Rattle.sparse.specs.Answers.{counts, refusedWith}

@@ -1,6 +1,5 @@
 -- `fields::read` meets its contract. The loop's invariant: the value is the field's bytes from `left` on. The measure is what is left.
 -- Assumes nothing.
-use Prim.Native.Nat.{_+_, _-_}
 use native.Mathlib.Omega.{arith}
 use borrow.Author.Needs.{needs}
 use Rattle.fields.proofs.Loops.{Read, read-none, read-all, held, turned}

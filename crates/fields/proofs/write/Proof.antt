@@ -1,7 +1,7 @@
 -- `fields::write` meets its contract. The loop's invariant: what is left of the value, stored from byte i on, gives the whole field.
 -- The measure is the bytes left. Assumes nothing.
 use mathlib.Core.Path.{sym, _∙_}
-use Prim.Native.Nat.{_+_, _-_}
+use Prim.Native.Nat.{_-_}
 use native.Mathlib.Omega.{arith}
 use borrow.Author.Needs.{needs}
 use Rattle.fields.proofs.Laws.{patched-whole, patched-none}

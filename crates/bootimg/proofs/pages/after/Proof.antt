@@ -5,8 +5,6 @@ use mathlib.Core.Path.{refl}
 use Rattle.bootimg.proofs.Rounding.{page, after-past, after-over, after-fits}
 use Rattle.bootimg.proofs.pages.after.Statement.{statement}
 use Rattle.bootimg.proofs.pages.after.Tie as tie
-use Rattle.bootimg.proofs.pages.after.Reads as reads
-use Rattle.bootimg.proofs.pages.after.Lts as lts
 
 returns : tie.Need-returns
 returns c = λ p e. after-past (c .before .args .start) p (c .before .args .size) (c .before .args .page) e (page _ (c .before .pre)) (c .if1 .taken)

@@ -1,5 +1,5 @@
 -- `vectors::slot_cases::block` meets its contract: each turn passes a case. Assumes nothing.
-use Prim.Native.Nat.{_-_, _≤_}
+use Prim.Native.Nat.{_-_}
 use lib.ListN.{length}
 use borrow.Author.Needs.{needs}
 use Rattle.vectors.proofs.slot_cases.block.Statement.{statement}
