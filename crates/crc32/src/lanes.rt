@@ -2,7 +2,7 @@
 // side. Each step waits for the one before it, so four lanes together go nearly four times as fast.
 ghost use mathlib.Core.Path.{_≡_};
 ghost use lib.ListN.{length};
-ghost use Rattle.crc32.specs.Crc.{crcFrom};
+ghost use Rattle.crc32_rules.specs.Crc.{crcFrom};
 use crate::step::byte;
 use crate::step::half_bytes;
 

@@ -1,7 +1,7 @@
 // The state after one byte, half a byte a step from the one table of sixteen numbers.
 ghost use mathlib.Core.Path.{_≡_};
-ghost use Rattle.crc32.specs.Crc.{steps, byteStep};
-ghost use Rattle.crc32.specs.Table.{HalfBytes};
+ghost use Rattle.crc32_rules.specs.Crc.{steps, byteStep};
+ghost use Rattle.crc32_rules.specs.Table.{HalfBytes};
 
 // What four one-bit steps make of each half byte.
 const TABLE: [u32; 16] = [

@@ -1,30 +1,52 @@
--- The turns of the loops that read and write a field.
+-- What fits, four bytes as one number, and the turns of the loops that read and write a field and copy bytes.
 -- Assumes nothing.
-use mathlib.Core.Path.{_≡_, refl, _∙_}
+use mathlib.Core.Path.{_≡_, refl, sym, _∙_}
+use mathlib.Core.Bool.{Bool, true, false}
 use mathlib.Core.List.{List}
 use Prim.Native.Nat.{ℕ, suc, _+_, _-_, _*_, _^_, _/_, _%_, _≤_, _<_}
 use native.Mathlib.Nat.{pow-suc, pow-le-pow-right, add-zero, sub-zero}
 use native.Mathlib.Omega.{arith}
-use lib.ListN.{length, getD, set, length-set}
-use lib.Seq.{sets}
-use Rattle.fields.specs.Le.{le, bytes}
-use Rattle.fields.proofs.Laws.{more}
+use borrow.Author.Tests.{le-leb, lt-leb, leb-true, leb-false, ltb-true, ltb-false}
+use lib.Dec.{leb, ltb}
+use lib.ListN.{length, getD, set, drop, length-set, drop-of-length-le}
+use lib.Seq.{sets, drop-cons}
+use Rattle.fields_rules.specs.Number.{numberAt, bytes}
+use Rattle.fields_rules.proofs.Laws.{more}
+use Rattle.fields_rules.proofs.Sets.{sets-past}
+
+-- n bytes that are no more than there are fit where their place leaves room for them
+pub within-rest : (len at n : ℕ) → n ≤ len → leb at (len - n) ≡ leb (at + n) len
+within-rest len at n h = go (leb (at + n) len) refl
+  where
+    go : (x : Bool) → leb (at + n) len ≡ x → leb at (len - n) ≡ x
+    go true e = let l = leb-true (at + n) len e in le-leb at (len - n) (omega arith)
+    go false e = let l = leb-false (at + n) len e in lt-leb at (len - n) (omega arith)
+
+-- four bytes, the lowest first, are a number
+pub word-is : (s : List ℕ) (at : ℕ) {x y z w : ℕ} → x ≡ getD s at 0 → y ≡ getD s (at + 1) 0 → z ≡ getD s (at + 2) 0 → w ≡ getD s (at + 3) 0
+    → x + 256 * y + 65536 * z + 16777216 * w ≡ numberAt s at 4
+unfolding numberAt
+word-is s at ex ey ez ew =
+    let one : at + 1 ≡ suc at = omega arith in
+    let two : at + 2 ≡ suc (suc at) = omega arith in
+    let three : at + 3 ≡ suc (suc (suc at)) = omega arith in
+    rw (ex, ey, ez, ew, one, two, three) (omega arith)
 
 -- what is read of a field of w bytes, from its end down to byte `left`
 pub record Read (s : List ℕ) (at w value left : ℕ) : Type 0 where
   pub inside : left ≤ w
-  pub is : value ≡ le s (at + left) (w - left)
+  pub is : value ≡ numberAt s (at + left) (w - left)
   pub small : value < 256 ^ (w - left)
 
 -- before the first byte nothing is read
 pub read-none : (s : List ℕ) (at w : ℕ) → Read s at w 0 w
-unfolding le
+unfolding numberAt
 read-none s at w =
     let none : w - w ≡ 0 = omega arith in
     record { inside = omega arith; is = rw none; small = rw none (omega arith) }
 
 -- after the last, the field
-pub read-all : (s : List ℕ) (at w value left : ℕ) → Read s at w value left → left ≤ 0 → (value ≡ le s at w) × (value < 256 ^ w)
+pub read-all : (s : List ℕ) (at w value left : ℕ) → Read s at w value left → left ≤ 0 → (value ≡ numberAt s at w) × (value < 256 ^ w)
 read-all s at w value left read h =
     let none : left ≡ 0 = omega arith in
     let here : at + left ≡ at = omega arith in
@@ -47,11 +69,11 @@ module _ (s : List ℕ) (at w value left byte : ℕ) (read : Read s at w value l
 
   -- one byte more is read
   pub turned : byte ≡ getD s (at + (left - 1)) 0 → Read s at w (value * 256 + byte) (left - 1)
-  unfolding le
+  unfolding numberAt
   turned e =
       let above : at + left ≡ suc (at + (left - 1)) = omega arith in
-      let value-is : value ≡ le s (suc (at + (left - 1))) (w - left) = read .is ∙ rw above in
-      let whole : le s (at + (left - 1)) (w - (left - 1)) ≡ getD s (at + (left - 1)) 0 + 256 * le s (suc (at + (left - 1))) (w - left) = rw shorter in
+      let value-is : value ≡ numberAt s (suc (at + (left - 1))) (w - left) = read .is ∙ rw above in
+      let whole : numberAt s (at + (left - 1)) (w - (left - 1)) ≡ getD s (at + (left - 1)) 0 + 256 * numberAt s (suc (at + (left - 1))) (w - left) = rw shorter in
       record {
         inside = omega (arith, read .inside);
         is = rw whole (omega arith);
@@ -90,3 +112,33 @@ pub stored-all : (s : List ℕ) (at w v : ℕ) (out : List ℕ) (left i : ℕ) �
 stored-all s at w v out left i stored h =
     let none : w - i ≡ 0 = omega (arith, stored .inside) in
     rw none at (stored .rest)
+
+-- so many bytes are copied, and the rest from here on gives the whole
+pub record Copied (s : List ℕ) (at : ℕ) (src out : List ℕ) (i : ℕ) : Type 0 where
+  pub same-length : length out ≡ length s
+  pub inside : i ≤ length src
+  pub rest : sets out (at + i) (drop i src) ≡ sets s at src
+
+-- before the first byte none is
+pub copied-none : (s : List ℕ) (at : ℕ) (src : List ℕ) → Copied s at src s 0
+copied-none s at src = record { same-length = refl; inside = omega arith; rest = rw add-zero }
+
+-- one byte more is copied
+pub copied-more : (s : List ℕ) (at : ℕ) (src out : List ℕ) (i : ℕ) → Copied s at src out i → i < length src
+    → Copied s at src (set out (at + i) (getD src i 0)) (i + 1)
+copied-more s at src out i copied h =
+    let e : i + 1 ≡ suc i = omega arith in
+    let next : at + (i + 1) ≡ suc (at + i) = omega arith in
+    record {
+      same-length = length-set out (at + i) (getD src i 0) ∙ copied .same-length;
+      inside = omega arith;
+      rest = rw (next, e) (rw (drop-cons src i 0 h) at (copied .rest));
+    }
+
+-- after the last that has room, all are
+pub copied-all : (s : List ℕ) (at : ℕ) (src out : List ℕ) (i : ℕ) → Copied s at src out i → (i < length src → length out ≤ at + i) → out ≡ sets s at src
+copied-all s at src out i copied h = go (ltb i (length src)) refl
+  where
+    go : (x : Bool) → ltb i (length src) ≡ x → out ≡ sets s at src
+    go true e = sym (sets-past (drop i src) out (at + i) (h (ltb-true i (length src) e))) ∙ copied .rest
+    go false e = rw (drop-of-length-le src (ltb-false i (length src) e)) at (copied .rest)

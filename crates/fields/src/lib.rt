@@ -1,11 +1,20 @@
-// Numbers of two, four and eight bytes in a slice of bytes, low byte first.
+// Numbers of two, four and eight bytes in a slice of bytes, low byte first, and bytes copied.
 //
 // Every read is total: a byte past the end counts as 0, at every position up to the largest usize.
-// A write that does not fit whole changes nothing.
+// A number that does not fit whole is not written; a copy stores the bytes that have room.
 ghost use mathlib.Core.Path.{_≡_};
-ghost use Prim.Native.Nat.{_+_, _^_, _≤_, _<_};
-ghost use lib.ListN.{getD};
-ghost use Rattle.fields.specs.Le.{le, patched};
+ghost use Prim.Native.Nat.{_+_, _-_, _^_, _≤_, _<_};
+ghost use lib.Dec.{leb};
+ghost use lib.ListN.{length, getD};
+ghost use lib.Seq.{sets};
+ghost use Rattle.fields_rules.specs.Number.{numberAt, bytes, placed};
+
+// Whether n bytes from `at` on lie within a slice of so many.
+pub fn within(len: usize, at: usize, n: usize) -> bool
+    ensures { λ r. ⌜ r ≡ leb (at + n) len ⌝ }
+{
+    if len < n { false } else { at <= len - n }
+}
 
 // The byte `offset` past `at`, and 0 where the slice has none there.
 fn byte(s: &[u8], at: usize, offset: usize) -> u64
@@ -22,7 +31,7 @@ fn byte(s: &[u8], at: usize, offset: usize) -> u64
 // The number in `width` bytes at `at`, from the last byte, which is the highest, down.
 fn read(s: &[u8], at: usize, width: usize) -> u64
     requires { ⌜ width ≤ 8 ⌝ }
-    ensures { λ r. ⌜ (r ≡ le (now (s .entry)) at width) × (r < 256 ^ width) ⌝ }
+    ensures { λ r. ⌜ (r ≡ numberAt (now (s .entry)) at width) × (r < 256 ^ width) ⌝ }
 {
     let mut value: u64 = 0;
     let mut left = width;
@@ -35,33 +44,49 @@ fn read(s: &[u8], at: usize, width: usize) -> u64
 
 // The two bytes at `at`.
 pub fn read16(s: &[u8], at: usize) -> u16
-    ensures { λ r. ⌜ r ≡ le (now (s .entry)) at 2 ⌝ }
+    ensures { λ r. ⌜ r ≡ numberAt (now (s .entry)) at 2 ⌝ }
 {
     read(s, at, 2) as u16
 }
 
+// A byte, widened.
+fn wide(x: u8) -> u32
+    ensures { λ r. ⌜ (r ≡ x) × (r < 256) ⌝ }
+{
+    x as u32
+}
+
+// The four bytes at `at`, all of which the slice has: a single load.
+fn word(s: &[u8], at: usize) -> u32
+    requires { ⌜ at + 4 ≤ length (now s) ⌝ }
+    ensures { λ r. ⌜ r ≡ numberAt (now (s .entry)) at 4 ⌝ }
+{
+    wide(s[at]) + 256 * wide(s[at + 1]) + 65536 * wide(s[at + 2]) + 16777216 * wide(s[at + 3])
+}
+
 // The four bytes at `at`.
 pub fn read32(s: &[u8], at: usize) -> u32
-    ensures { λ r. ⌜ r ≡ le (now (s .entry)) at 4 ⌝ }
+    ensures { λ r. ⌜ r ≡ numberAt (now (s .entry)) at 4 ⌝ }
 {
-    read(s, at, 4) as u32
+    if within(s.len(), at, 4) {
+        word(s, at)
+    } else {
+        read(s, at, 4) as u32
+    }
 }
 
 // The eight bytes at `at`.
 pub fn read64(s: &[u8], at: usize) -> u64
-    ensures { λ r. ⌜ r ≡ le (now (s .entry)) at 8 ⌝ }
+    ensures { λ r. ⌜ r ≡ numberAt (now (s .entry)) at 8 ⌝ }
 {
     read(s, at, 8)
 }
 
 // The `width` low bytes of a number at `at`, where they fit whole.
 fn write(out: &mut [u8], at: usize, width: usize, value: u64)
-    ensures { λ _. ⌜ now (out .exit) ≡ patched (now (out .entry)) at width value ⌝ }
+    ensures { λ _. ⌜ now (out .exit) ≡ placed (now (out .entry)) at (bytes width value) ⌝ }
 {
-    if out.len() < width {
-        return;
-    }
-    if out.len() - width < at {
+    if !within(out.len(), at, width) {
         return;
     }
     let mut left = value;
@@ -75,21 +100,40 @@ fn write(out: &mut [u8], at: usize, width: usize, value: u64)
 
 // Two bytes at `at`.
 pub fn write16(out: &mut [u8], at: usize, value: u16)
-    ensures { λ _. ⌜ now (out .exit) ≡ patched (now (out .entry)) at 2 value ⌝ }
+    ensures { λ _. ⌜ now (out .exit) ≡ placed (now (out .entry)) at (bytes 2 value) ⌝ }
 {
     write(out, at, 2, value as u64);
 }
 
 // Four bytes at `at`.
 pub fn write32(out: &mut [u8], at: usize, value: u32)
-    ensures { λ _. ⌜ now (out .exit) ≡ patched (now (out .entry)) at 4 value ⌝ }
+    ensures { λ _. ⌜ now (out .exit) ≡ placed (now (out .entry)) at (bytes 4 value) ⌝ }
 {
     write(out, at, 4, value as u64);
 }
 
 // Eight bytes at `at`.
 pub fn write64(out: &mut [u8], at: usize, value: u64)
-    ensures { λ _. ⌜ now (out .exit) ≡ patched (now (out .entry)) at 8 value ⌝ }
+    ensures { λ _. ⌜ now (out .exit) ≡ placed (now (out .entry)) at (bytes 8 value) ⌝ }
 {
     write(out, at, 8, value);
+}
+
+// How many of n bytes from `at` on have room in a slice of so many.
+fn room(len: usize, at: usize, n: usize) -> usize
+    ensures { λ r. ⌜ (r ≤ n) × (r ≤ len - at) × (r < n → len ≤ at + r) ⌝ }
+{
+    if len <= at {
+        return 0;
+    }
+    if len - at < n { len - at } else { n }
+}
+
+// The bytes of a slice stored from `at` on, as many as have room.
+pub fn copy(out: &mut [u8], at: usize, src: &[u8])
+    ensures { λ _. ⌜ now (out .exit) ≡ sets (now (out .entry)) at (now (src .entry)) ⌝ }
+{
+    for i in 0..room(out.len(), at, src.len()) {
+        out[at + i] = src[i];
+    }
 }

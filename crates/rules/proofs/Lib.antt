@@ -1,3 +1,4 @@
 pub mod First
 pub mod Tests
 pub mod Table
+pub mod Answer

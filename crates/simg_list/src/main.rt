@@ -1,15 +1,15 @@
 // The lister: reads an image from standard input, and prints its text.
 use libc::STDIN_FILENO;
 use libc::STDOUT_FILENO;
-use listing::Listed;
+use sparse_listing::Listed;
 
 // One byte more than an image may have is read, so that longer input is seen; the buffer has room for
-// every text (`always-whole` of the crate listing).
+// every text (`always-whole` of sparse_listing).
 fn main() {
     let mut input = [0u8; 65537];
     let n = io::read_full(STDIN_FILENO, &mut input);
     let mut text = [0u8; 327744];
-    let listed = listing::list(&input[..n], &mut text);
+    let listed = sparse_listing::list(&input[..n], &mut text);
     let Listed::Whole(len) = listed else {
         return;
     };

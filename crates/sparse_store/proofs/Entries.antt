@@ -9,29 +9,38 @@ use native.Mathlib.Omega.{arith}
 use lib.Dec.{leb}
 use lib.ListN.{length}
 use borrow.Author.Tests.{leb-true, leb-false}
-use Rattle.sparse.specs.declared.Chunk.{Chunk}
-use Rattle.sparse.specs.Chunks.{refused, accepted}
-use Rattle.sparse.specs.Cells.{written}
-use Rattle.sparse.specs.Judge.{judged}
-use Rattle.sparse.specs.Answers.{counts, refusedWith, answer}
-use Rattle.sparse_store.specs.Store.{store, storeUpTo}
-use Rattle.sparse_store.specs.Answers.{stored, refusedWith as cutRefused, cutAnswerFor, cutAnswer}
-use Rattle.sparse_store.specs.Lent.{Storable}
-use Rattle.sparse.proofs.Image.{answer-accepted, answer-refused}
-use Rattle.sparse_store.proofs.Cut.{limit-whole, refused-stores-nothing, refused-cut-nothing}
+use Rattle.rules.specs.Answer.{accepted, refused}
+use Rattle.sparse_rules.specs.Judge.{judged}
+use Rattle.sparse_rules.specs.Answers.{counts, answer}
+use Rattle.sparse_rules.specs.declared.Refusal.{Refusal}
+use Rattle.sparse_store_rules.specs.declared.Stored.{Stored}
+use Rattle.sparse_store_rules.specs.declared.Stored.the-variants.{Blocks, Refused}
+use Rattle.sparse_store_rules.specs.Store.{store, storeUpTo}
+use Rattle.sparse_store_rules.specs.Answers.{cutAnswer}
+use Rattle.sparse_rules.proofs.Image.{Counted, answer-accepted, answer-refused}
+use Rattle.sparse_store_rules.proofs.Cut.{limit-whole, refused-stores-nothing, refused-cut-nothing, cut-accepted, cut-refused}
+use Rattle.sparse_store.specs.Storable.{Storable}
+
+-- what an answer is known to be says what the answer says
+pub says-same : {A B : Type 0} (says : A → B) {r known : A} {b : B} → r ≡ known → says r ≡ b → says known ≡ b
+says-same says e q = sym (ap says e) ∙ q
+
+-- blocks that are stored are no refusal
+pub stored-is-no-refusal : {r : Stored} {n : ℕ} {f : Refusal} → r ≡ Blocks n → r ≡ Refused f → ⊥
+stored-is-no-refusal e q = let z : _≡_ {A = ℕ} 0 1 = cc in omega arith
 
 module _ (s p : List ℕ) where
   module _ (w k : ℕ) (e : counts w k ≡ answer s (length s) (length p)) where
-    found : (ks : List Chunk) × (judged s (length s) (length p) ≡ accepted ks) × (written ks ≡ w)
-    found = answer-accepted s (length p) w k e
+    found : Counted (judged s (length s) (length p)) w k
+    found = answer-accepted s (length s) (length p) w k e
 
     -- an accepted image has its blocks to store
     pub storable : (count : ℕ) → count ≤ w → Storable s (length p) count
-    storable count h = record { ks = found .0; found = found .1; enough = rw (found .2) h }
+    storable count h = record { ks = found .ks; found = found .found; enough = rw (found .writes) h }
 
     -- all of them are the plain store
     pub stored-whole : storeUpTo w s p ≡ store s p
-    stored-whole = limit-whole s p (found .0) (found .1) w (omega (arith, found .2))
+    stored-whole = limit-whole s p (found .ks) (found .found) w (omega (arith, found .writes))
 
     -- the lesser of the limit and all of them is what the limit leaves
     pub stored-least : (limit : ℕ) → storeUpTo (min limit w) s p ≡ storeUpTo limit s p
@@ -42,16 +51,16 @@ module _ (s p : List ℕ) where
         go false q =
             let h : w ≤ limit = le-of-lt (leb-false limit w q) in
             ap (λ (n : ℕ). storeUpTo n s p) (min-eq-right h) ∙ stored-whole
-            ∙ sym (limit-whole s p (found .0) (found .1) limit (rw (found .2) h))
+            ∙ sym (limit-whole s p (found .ks) (found .found) limit (rw (found .writes) h))
 
     -- and is answered
-    pub answered-least : (limit : ℕ) → stored (min limit w) ≡ cutAnswer limit s (length p)
-    unfolding cutAnswer cutAnswerFor
-    answered-least limit = rw (found .1, found .2)
+    pub answered-least : (limit : ℕ) → accepted (min limit w) ≡ cutAnswer limit s (length p)
+    answered-least limit =
+        ap (λ (n : ℕ). accepted (min limit n)) (sym (found .writes)) ∙ sym (cut-accepted limit s (length p) (found .ks) (found .found))
 
-  module _ (n place : ℕ) (e : refusedWith n place ≡ answer s (length s) (length p)) where
+  module _ (n place : ℕ) (e : refused n place ≡ answer s (length s) (length p)) where
     refusal : judged s (length s) (length p) ≡ refused n place
-    refusal = answer-refused s (length p) n place e
+    refusal = answer-refused s (length s) (length p) n place e
 
     -- a refusal stores nothing
     pub refused-whole : p ≡ store s p
@@ -61,6 +70,5 @@ module _ (s p : List ℕ) where
     refused-limited limit = sym (refused-cut-nothing limit s p n place refusal)
 
     -- and is answered with its number and place
-    pub answered-refused : (limit : ℕ) → cutRefused n place ≡ cutAnswer limit s (length p)
-    unfolding cutAnswer cutAnswerFor
-    answered-refused limit = rw refusal
+    pub answered-refused : (limit : ℕ) → refused n place ≡ cutAnswer limit s (length p)
+    answered-refused limit = sym (cut-refused limit s (length p) n place refusal)

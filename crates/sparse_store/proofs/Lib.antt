@@ -1,10 +1,2 @@
-pub mod Over
-pub mod Restart
-pub mod Cut
-pub mod Whole
-pub mod Blocks
-pub mod Filled
-pub mod Lending
-pub mod Tearing
 pub mod Turn
 pub mod Entries

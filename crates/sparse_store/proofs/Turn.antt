@@ -5,26 +5,28 @@ use mathlib.Core.Path.{_≡_, refl, sym, ap, _∙_}
 use mathlib.Core.Bool.{Bool, true, false, cond}
 use mathlib.Core.Option.{Option, none}
 use mathlib.Core.List.{List, [], _∷_}
-use Prim.Native.Nat.{ℕ, zero, suc, _+_, _-_, _*_, _%_, min, _≤_, _<_}
+use Prim.Native.Nat.{ℕ, zero, suc, _+_, _-_, _*_, min, _≤_, _<_}
 use native.Mathlib.Nat.{zero-mul, add-mul, mul-le-mul-right}
 use native.Mathlib.Omega.{arith}
 use lib.ListN.{length, replicate}
-use Rattle.sparse.specs.declared.Header.{Header}
-use Rattle.sparse.specs.declared.Cursor.{Cursor}
-use Rattle.sparse.specs.declared.Chunk.{Chunk}
-use Rattle.sparse.specs.Header.{headerOf, totalChunks}
-use Rattle.sparse.specs.Chunks.{refusal, chunk, reading, accepted, walk, origin}
-use Rattle.sparse.specs.Cells.{count, cellsBy, cells, writes, written}
-use Rattle.sparse.specs.Facts.{HeaderFacts, ChunkFacts}
-use Rattle.sparse.proofs.Walk.{Stepped, stepped, ended}
-use Rattle.sparse.proofs.Facts.{chunk-facts, accepted-facts}
-use Rattle.sparse.proofs.Cells.{written-nil, written-cons}
-use Rattle.sparse_store.specs.Store.{torn, cutStore, storeUpTo}
-use Rattle.sparse_store.specs.Lent.{laid, Lent, Storable}
-use Rattle.sparse_store.proofs.Over.{length-over}
-use Rattle.sparse_store.proofs.Lending.{kept-part}
-use Rattle.sparse.proofs.Image.{effect-accepted, chunks-walked}
-use Rattle.sparse_store.proofs.Tearing.{torn-zero, takes, laid-on}
+use Rattle.sparse_rules.specs.declared.Header.{Header}
+use Rattle.sparse_rules.specs.declared.Cursor.{Cursor}
+use Rattle.sparse_rules.specs.declared.Chunk.{Chunk}
+use Rattle.sparse_rules.specs.Header.{headerOf, totalChunks}
+use Rattle.rules.specs.Answer.{refused, accepted}
+use Rattle.sparse_rules.specs.Chunks.{chunk, reading}
+use Rattle.sparse_rules.specs.Walk.{walk, origin}
+use Rattle.sparse_rules.specs.Cells.{count, cellsBy, cells, writes, written}
+use Rattle.sparse_rules.specs.Facts.{HeaderFacts, ChunkFacts}
+use Rattle.sparse_rules.proofs.Walk.{read-on, never-refused, ended}
+use Rattle.sparse_rules.proofs.Facts.{chunk-facts, accepted-facts}
+use Rattle.sparse_rules.proofs.Cells.{written-nil, written-cons}
+use Rattle.sparse_rules.proofs.Image.{chunks-walked}
+use Rattle.sparse_store_rules.specs.Store.{torn, laid, storeUpTo}
+use Rattle.sparse_store_rules.proofs.Over.{length-over, laid-kept}
+use Rattle.sparse_store_rules.proofs.Cut.{limit-cells}
+use Rattle.sparse_store_rules.proofs.CutChunks.{torn-zero, takes, laid-on}
+use Rattle.sparse_store.specs.Storable.{Storable}
 
 -- so many blocks are left to store, from a cursor on
 pub record Turn (s : List ℕ) (h : Header) (p₀ : List ℕ) (limit : ℕ) (p : List ℕ) (c : Cursor) (left : ℕ) : Type 0 where
@@ -43,7 +45,6 @@ pub record Turn (s : List ℕ) (h : Header) (p₀ : List ℕ) (limit : ℕ) (p :
 
 -- before the first chunk all is left
 pub turn-start : (s p : List ℕ) (h : Header) (count : ℕ) → h ≡ headerOf s → Storable s (length p) count → Turn s h p count p (origin h) count
-unfolding storeUpTo cutStore
 turn-start s p h count e a =
     let facts = accepted-facts s (length s) (length p) (a .ks) (a .found) in
     record {
@@ -54,13 +55,8 @@ turn-start s p h count e a =
       first = omega arith;
       enough = a .enough;
       size = refl;
-      goes = rw (e, zero-mul, effect-accepted s (length p) (a .ks) (a .found));
+      goes = rw (e, zero-mul) (sym (limit-cells s p (a .ks) (a .found) count));
     }
-
--- the whole stretch of n blocks is in fours
-fours : (n b : ℕ) → b % 4 ≡ 0 → n * b % 4 ≡ 0
-fours zero b e = rw zero-mul
-fours (suc n) b e = let m : suc n * b ≡ n * b + b = omega arith in rw m (omega (arith, fours n b e))
 
 module _ {s : List ℕ} {h : Header} {p₀ : List ℕ} {limit : ℕ} {p : List ℕ} {c : Cursor} {left : ℕ} (turn : Turn s h p₀ limit p c left) where
   -- after the last block the whole is stored
@@ -70,7 +66,7 @@ module _ {s : List ℕ} {h : Header} {p₀ : List ℕ} {limit : ℕ} {p : List �
       let cs : List (Option ℕ) = cells s b (turn .ks) in
       let none-left : left * b ≡ 0 = let z : left ≡ 0 = omega arith in rw z (zero-mul b) in
       let kept : torn (left * b) [] cs ≡ replicate (length cs) none = ap (λ (m : ℕ). torn m [] cs) none-left ∙ torn-zero cs in
-      sym (kept-part (c .first * b) (length cs) p)
+      sym (laid-kept (c .first * b) (length cs) p)
       ∙ ap (λ (ds : List (Option ℕ)). laid (c .first * b) ds p) (sym kept) ∙ turn .goes
 
   -- before it there is a chunk
@@ -84,22 +80,19 @@ module _ {s : List ℕ} {h : Header} {p₀ : List ℕ} {limit : ℕ} {p : List �
           absurd (omega (arith, turn .enough))
       go (suc n) q = omega arith
 
-  step : 0 < left → Stepped s (length s) h (turn .n) c (turn .ks)
-  step some-left = stepped s (length s) h (turn .n) c (turn .ks) (turn .walked) (more some-left)
-
   -- which is not refused
-  pub not-refused : 0 < left → (m place : ℕ) → reading s (length s) h c ≡ refusal m place → ⊥
-  not-refused some-left m place q = let z : _≡_ {A = ℕ} 0 1 = cc (step some-left .read) in omega arith
+  pub not-refused : 0 < left → (m place : ℕ) → refused m place ≡ reading s (length s) h c → ⊥
+  not-refused some-left m place q = never-refused s (length s) h (turn .n) c (turn .ks) (turn .walked) (more some-left) m place (sym q)
 
 -- a chunk is read in a turn
 pub record Here (s : List ℕ) (h : Header) (p₀ : List ℕ) (limit : ℕ) (p : List ℕ) (c : Cursor) (left : ℕ) (k : Chunk) (next : Cursor) : Type 0 where
   pub turn : Turn s h p₀ limit p c left
   pub some-left : 0 < left
-  pub read : reading s (length s) h c ≡ chunk k next
+  pub read : chunk k next ≡ reading s (length s) h c
 
 module _ {s : List ℕ} {h : Header} {p₀ : List ℕ} {limit : ℕ} {p : List ℕ} {c : Cursor} {left : ℕ} {k : Chunk} {next : Cursor} (here : Here s h p₀ limit p c left k next) where
   facts : ChunkFacts s (length s) h c k next
-  facts = chunk-facts s (length s) h c k next (here .read)
+  facts = chunk-facts s (length s) h c k next (sym (here .read))
 
   -- less of the image is left after it
   pub passes : length s - next .at < length s - c .at
@@ -131,16 +124,8 @@ module _ {s : List ℕ} {h : Header} {p₀ : List ℕ} {limit : ℕ} {p : List �
     took-bytes = mul-le-mul-right (h .block) (rw take-is most)
 
     -- whose first bytes can be handed on
-    pub lent : Lent s (length p) k (c .first * h .block) (took * h .block)
-    lent =
-        record {
-          inside = omega (arith, stretch, took-bytes, here .turn .size);
-          fours = fours took (h .block) (here .turn .header .block-fours);
-          raw = λ e.
-              let there : k .body + k .blocks * h .block ≤ next .at = rw e at (facts .data-inside) in
-              omega (arith, took-bytes, facts .inside);
-          fill = λ e. let there : k .body + 4 ≤ next .at = rw e at (facts .data-inside) in omega (arith, facts .inside);
-        }
+    pub lent : c .first * h .block + took * h .block ≤ length p
+    lent = omega (arith, stretch, took-bytes, here .turn .size)
 
     -- and once they are stored, the rest goes on from the next chunk
     pub turned : {p′ : List ℕ} → p′ ≡ laid (c .first * h .block) (cellsBy s (k .kind) (k .body) (took * h .block)) p
@@ -148,18 +133,15 @@ module _ {s : List ℕ} {h : Header} {p₀ : List ℕ} {limit : ℕ} {p : List �
     turned {p′} e =
         let b : ℕ = h .block in
         let turn = here .turn in
-        let d = step turn (here .some-left) in
-        let same : d .here ≡ k = cc (d .read, here .read) in
-        let after : d .next ≡ next = cc (d .read, here .read) in
-        let found : turn .ks ≡ k ∷ d .rest = d .found ∙ rw same in
-        let counted : written (turn .ks) ≡ cond (writes (k .kind)) (k .blocks) 0 + written (d .rest) = ap written found ∙ written-cons k (d .rest) in
+        let d = read-on s (length s) h (turn .n) c (turn .ks) (turn .walked) (more turn (here .some-left)) k next (sym (here .read)) in
+        let counted : written (turn .ks) ≡ cond (writes (k .kind)) (k .blocks) 0 + written (d .rest) = ap written (d .found) ∙ written-cons k (d .rest) in
         let place : next .first * b ≡ c .first * b + k .blocks * b = rw (facts .blocks) (add-mul (c .first) (k .blocks) b) in
         let whole : laid (c .first * b) (torn (left * b) [] (cells s b (k ∷ d .rest))) p ≡ storeUpTo limit s p₀ =
-        ap (λ (l : List Chunk). laid (c .first * b) (torn (left * b) [] (cells s b l)) p) (sym found) ∙ turn .goes in
+        ap (λ (l : List Chunk). laid (c .first * b) (torn (left * b) [] (cells s b l)) p) (sym (d .found)) ∙ turn .goes in
         record {
           n = turn .n - 1;
           ks = d .rest;
-          walked = rw after at (d .walked);
+          walked = d .walked;
           header = turn .header;
           first = facts .within;
           enough = omega (arith, turn .enough);

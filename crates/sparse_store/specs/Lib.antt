@@ -1,5 +1,1 @@
-pub mod Store
-pub mod Answers
-pub mod Runs
-pub mod Blocks
-pub mod Lent
+pub mod Storable

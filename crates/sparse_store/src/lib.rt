@@ -1,62 +1,25 @@
 // Storing a sparse image on a lent partition: whole, or up to a limit of stored blocks.
 ghost use mathlib.Core.Path.{_≡_};
 ghost use mathlib.Core.Bool.{cond};
-ghost use Prim.Native.Nat.{_+_, _%_, _≤_, min};
+ghost use Prim.Native.Nat.{_+_, _≤_, min};
 ghost use lib.ListN.{length};
-ghost use Rattle.sparse.specs.Cells.{tab, rawByte, fillByte, cellsBy, writes};
-ghost use Rattle.sparse.specs.Answers.{answer, answerOf};
-ghost use Rattle.sparse_store.specs.Store.{store, storeUpTo};
-ghost use Rattle.sparse_store.specs.Answers.{cutAnswer, cutAnswerOf, stoppedBy};
-ghost use Rattle.sparse_store.specs.Lent.{laid, Lent, Storable};
-use sparse::Chunk;
-use sparse::ChunkRead;
-use sparse::Cursor;
-use sparse::Kind;
-use sparse::Refusal;
-use sparse::Verdict;
-
-// What the cut form answers: how many blocks it stored, or the judge's refusal.
-pub enum Stored {
-    Blocks(u64),
-    Refused(Refusal),
-}
-
-// The raw writer: the whole part becomes the data that stand at a place of the image.
-fn put_raw(part: &mut [u8], image: &[u8], at: usize)
-    requires { ⌜ at + length (now part) ≤ length (now image) ⌝ }
-    ensures { λ _. ⌜ now (part .exit) ≡ tab (rawByte (now (image .entry)) at) 0 (length (now (part .entry))) ⌝ }
-{
-    let n = part.len();
-    let mut i: usize = 0;
-    while i < n {
-        part[i] = image[at + i];
-        i = i + 1;
-    }
-}
-
-// The fill writer: the whole part becomes the 4 bytes that stand at a place of the image, repeated.
-fn put_fill(part: &mut [u8], image: &[u8], at: usize)
-    requires { ⌜ (at + 4 ≤ length (now image)) × (length (now part) % 4 ≡ 0) ⌝ }
-    ensures { λ _. ⌜ now (part .exit) ≡ tab (fillByte (now (image .entry)) at) 0 (length (now (part .entry))) ⌝ }
-{
-    let a = image[at];
-    let b = image[at + 1];
-    let c = image[at + 2];
-    let d = image[at + 3];
-    let n = part.len();
-    let mut i: usize = 0;
-    while i < n {
-        part[i] = a;
-        part[i + 1] = b;
-        part[i + 2] = c;
-        part[i + 3] = d;
-        i = i + 4;
-    }
-}
+ghost use Rattle.sparse_rules.specs.Cells.{cellsBy, writes};
+ghost use Rattle.sparse_rules.specs.Answers.{answer, answerOf};
+ghost use Rattle.sparse_store_rules.specs.Store.{laid, store, storeUpTo};
+ghost use Rattle.sparse_store_rules.specs.Answers.{cutAnswer, cutAnswerOf};
+ghost use Rattle.sparse_store.specs.Storable.{Storable};
+use sparse_rules::Chunk;
+use sparse_rules::ChunkRead;
+use sparse_rules::Cursor;
+use sparse_rules::Kind;
+use sparse_rules::Verdict;
+use sparse_store_bytes::put_fill;
+use sparse_store_bytes::put_raw;
+use sparse_store_rules::Stored;
 
 // The first bytes of a chunk: only its own stretch of the partition is handed on.
 fn store_chunk(image: &[u8], partition: &mut [u8], chunk: Chunk, from: usize, bytes: usize)
-    requires { ⌜ Lent (now image) (length (now partition)) chunk from bytes ⌝ }
+    requires { ⌜ from + bytes ≤ length (now partition) ⌝ }
     ensures { λ _. ⌜ now (partition .exit) ≡ laid from (cellsBy (now (image .entry)) (chunk .kind) (chunk .body) bytes) (now (partition .entry)) ⌝ }
 {
     let end = from + bytes;
@@ -90,23 +53,13 @@ fn taken(chunk: Chunk, left: u64) -> u64
     }
 }
 
-// The refusal of a chunk, handed on.
-fn refused(r: ChunkRead) -> Stored
-    ensures { λ s. ⌜ s ≡ stoppedBy r ⌝ }
-{
-    match r {
-        ChunkRead::Refused(f) => Stored::Refused(f),
-        ChunkRead::Chunk(_, _) => Stored::Blocks(0),
-    }
-}
-
 // The first blocks of an accepted image, in order, so many as it is known to have; answers how many.
 fn store_blocks(image: &[u8], partition: &mut [u8], count: u64) -> Stored
     requires { ⌜ Storable (now image) (length (now partition)) count ⌝ }
     ensures answer { λ r. ⌜ r ≡ Stored.Blocks count ⌝ }
     ensures contents { λ _. ⌜ now (partition .exit) ≡ storeUpTo count (now (image .entry)) (now (partition .entry)) ⌝ }
 {
-    let header = sparse::read_header(image);
+    let header = sparse_read::read_header(image);
     let block = header.block as usize;
     let mut cursor = Cursor {
         at: header.start as usize,
@@ -114,9 +67,9 @@ fn store_blocks(image: &[u8], partition: &mut [u8], count: u64) -> Stored
     };
     let mut left = count;
     while 0 < left {
-        let r = sparse::read_chunk(image, header, cursor);
+        let r = sparse_read::read_chunk(image, header, cursor);
         let ChunkRead::Chunk(chunk, next) = r else {
-            return refused(r);
+            return Stored::Refused(sparse_read::refusal_of(r));
         };
         let take = taken(chunk, left);
         let from = cursor.first as usize * block;
@@ -134,7 +87,7 @@ pub fn store_limited(image: &[u8], partition: &mut [u8], limit: u64) -> Stored
     ensures answer { λ r. ⌜ cutAnswerOf r ≡ cutAnswer limit (now (image .entry)) (length (now (partition .entry))) ⌝ }
     ensures contents { λ _. ⌜ now (partition .exit) ≡ storeUpTo limit (now (image .entry)) (now (partition .entry)) ⌝ }
 {
-    let verdict = sparse::judge(image, partition.len() as u64);
+    let verdict = sparse_judge::judge(image, partition.len() as u64);
     match verdict {
         Verdict::Accepted(written, _) => {
             let count = least(limit, written as u64);
@@ -145,15 +98,18 @@ pub fn store_limited(image: &[u8], partition: &mut [u8], limit: u64) -> Stored
 }
 
 // The plain store: the cut form with a limit of all blocks that the image writes; answers as the
-// judge does.
+// judge does, or with what the reader last said where that is a refusal.
 pub fn store(image: &[u8], partition: &mut [u8]) -> Verdict
     ensures answer { λ r. ⌜ answerOf r ≡ answer (now (image .entry)) (length (now (image .entry))) (length (now (partition .entry))) ⌝ }
     ensures contents { λ _. ⌜ now (partition .exit) ≡ store (now (image .entry)) (now (partition .entry)) ⌝ }
 {
-    let verdict = sparse::judge(image, partition.len() as u64);
-    let Verdict::Accepted(written, _) = verdict else {
-        return verdict;
+    let found = sparse_judge::judge(image, partition.len() as u64);
+    let Verdict::Accepted(written, _) = found else {
+        return found;
     };
-    store_blocks(image, partition, written as u64);
-    verdict
+    let stored = store_blocks(image, partition, written as u64);
+    match stored {
+        Stored::Blocks(_) => found,
+        Stored::Refused(f) => Verdict::Refused(f),
+    }
 }

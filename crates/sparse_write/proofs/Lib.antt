@@ -1,9 +1,3 @@
-pub mod Runs
 pub mod Scanning
-pub mod Putting
-pub mod KindCells
 pub mod Passes
-pub mod FlatImage
-pub mod ReadBack
-pub mod Encoded
-pub mod Theorems
+pub mod Written

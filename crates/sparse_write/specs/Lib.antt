@@ -1,6 +1,1 @@
-pub mod Blocks
-pub mod Runs
-pub mod Encode
 pub mod Scan
-pub mod Write
-pub mod Theorems

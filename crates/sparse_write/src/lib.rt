@@ -6,25 +6,20 @@ mod put;
 mod scan;
 
 use put::put_chunk;
-use put::put_header;
 use scan::first_kind;
-use scan::run;
-use sparse::Refusal;
+use scan::first_run;
+use sparse_rules::Refusal;
+use sparse_write_rules::Outcome;
 ghost use mathlib.Core.Path.{_≡_};
 ghost use Prim.Native.Nat.{_+_, _*_, _%_, _≤_, _<_};
 ghost use lib.ListN.{length};
 ghost use lib.Seq.{sets};
-ghost use Rattle.crc32.specs.Crc.{crcFrom, ones};
-ghost use Rattle.sparse.specs.Header.{blockSizeRight};
-ghost use Rattle.sparse_write.specs.Encode.{storedKind, size, chunks};
+ghost use Rattle.crc32_rules.specs.Crc.{crcFrom, allOnes};
+ghost use Rattle.sparse_write_rules.specs.Kinds.{storedKind};
+ghost use Rattle.sparse_write_rules.specs.Encode.{chunkSize, chunks};
+ghost use Rattle.sparse_write_rules.specs.Write.{answerOf, answer, output};
+ghost use Rattle.sparse_put.specs.Numbered.{kindNumbered};
 ghost use Rattle.sparse_write.specs.Scan.{runsAt};
-ghost use Rattle.sparse_write.specs.Write.{lengthWrong, answerOf, answer, output};
-
-// What the writer answers: the image's length, or a refusal.
-pub enum Outcome {
-    Written(usize),
-    Refused(Refusal),
-}
 
 // An image's length, and its number of chunks.
 struct Extent {
@@ -35,7 +30,7 @@ struct Extent {
 // The total size of a chunk of a kind over n bytes.
 fn chunk_size(kind: u64, n: usize) -> usize
     requires { ⌜ (0 < kind) × (n ≤ 2147483648) ⌝ }
-    ensures { λ r. ⌜ (r ≡ size kind n) × (r ≤ 16 + n) ⌝ }
+    ensures { λ r. ⌜ (r ≡ chunkSize (kindNumbered kind) n) × (r ≤ 16 + n) ⌝ }
 {
     if kind == 1 { 12 + n } else { 16 }
 }
@@ -52,9 +47,9 @@ fn measure(flat: &[u8], block: usize, n: usize) -> Extent
     let mut left = n;
     let mut kind = first_kind(flat, block, n);
     while 0 < left {
-        let r = run(flat, block, at, left, kind);
+        let r = first_run(flat, block, at, left, kind);
         let blocks = r.blocks;
-        let len = blocks * block;
+        let len = r.len;
         bytes = bytes + chunk_size(kind, len);
         count = count + 1;
         at = at + len;
@@ -71,7 +66,7 @@ fn measure(flat: &[u8], block: usize, n: usize) -> Extent
 fn put_chunks(out: &mut [u8], flat: &[u8], block: usize, n: usize) -> u32
     requires { ⌜ (28 + length (chunks block (now flat) 0 (runsAt (storedKind (now flat) block) block n 0)) ≤ length (now out))
         × (n * block ≡ length (now flat)) × (4 ≤ block) × (block % 4 ≡ 0) × (length (now flat) ≤ 2147483648) ⌝ }
-    ensures { λ r. ⌜ (r ≡ crcFrom ones (now (flat .entry)))
+    ensures { λ r. ⌜ (r ≡ crcFrom allOnes (now (flat .entry)))
         × (now (out .exit) ≡ sets (now (out .entry)) 28 (chunks block (now (flat .entry)) 0 (runsAt (storedKind (now (flat .entry)) block) block n 0))) ⌝ }
 {
     let mut state = crc32::start();
@@ -80,9 +75,9 @@ fn put_chunks(out: &mut [u8], flat: &[u8], block: usize, n: usize) -> u32
     let mut left = n;
     let mut kind = first_kind(flat, block, n);
     while 0 < left {
-        let r = run(flat, block, at, left, kind);
+        let r = first_run(flat, block, at, left, kind);
         let blocks = r.blocks;
-        let len = blocks * block;
+        let len = r.len;
         let end = at + len;
         state = put_chunk(out, pos, &flat[at..end], kind, blocks as u32, state);
         pos = pos + chunk_size(kind, len);
@@ -91,21 +86,6 @@ fn put_chunks(out: &mut [u8], flat: &[u8], block: usize, n: usize) -> u32
         kind = r.next;
     }
     state
-}
-
-// Whether a block size is a multiple of 4 from 4 to 65,536.
-fn block_right(block: u32) -> bool
-    ensures { λ r. ⌜ r ≡ blockSizeRight block ⌝ }
-{
-    (4 <= block) & (block <= 65536) & (block % 4 == 0)
-}
-
-// Whether flat data of n bytes are too long, or not whole blocks.
-fn length_wrong(n: usize, block: usize) -> bool
-    requires { ⌜ 0 < block ⌝ }
-    ensures { λ r. ⌜ r ≡ lengthWrong n block ⌝ }
-{
-    (2147483648 < n) | (n % block != 0)
 }
 
 // A refusal by its number, at place 0.
@@ -120,11 +100,11 @@ pub fn write(flat: &[u8], block_size: u32, out: &mut [u8]) -> Outcome
     ensures { λ r. ⌜ (answerOf r ≡ answer (now (flat .entry)) «block_size» (length (now (out .entry))))
         × (now (out .exit) ≡ output (now (flat .entry)) «block_size» (now (out .entry))) ⌝ }
 {
-    if !block_right(block_size) {
+    if !sparse_read::block_right(block_size) {
         return refused(5);
     }
     let block = block_size as usize;
-    if length_wrong(flat.len(), block) {
+    if (2147483648 < flat.len()) | (flat.len() % block != 0) {
         return refused(13);
     }
     let n = flat.len() / block;
@@ -133,6 +113,6 @@ pub fn write(flat: &[u8], block_size: u32, out: &mut [u8]) -> Outcome
         return refused(12);
     }
     let state = put_chunks(out, flat, block, n);
-    put_header(out, block_size, n as u32, m.chunks, crc32::finish(state));
+    sparse_put::put_header(out, block_size, n as u32, m.chunks, crc32::finish(state));
     Outcome::Written(m.bytes)
 }

@@ -1,4 +1,1 @@
-pub mod Layouts
-pub mod Bytes
 pub mod Promises
-pub mod Numbered

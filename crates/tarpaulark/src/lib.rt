@@ -1,50 +1,82 @@
 // What other languages call. Numbers and bytes go in; the answer is 0 or the number of the refusal,
 // with the rest of it in a lent array of fixed length. include/tarpaulark.h says the same for C.
 
-// numbers is numbers.rt next to this file: the answers as numbers.
-mod numbers;
-
-// record is record.rt next to this file: the slot record as bytes.
-mod record;
-
-use numbers::cut_answer;
-use numbers::cut_number;
-use numbers::located_answer;
-use numbers::located_number;
-use numbers::verdict_answer;
-use numbers::verdict_number;
-use numbers::written_answer;
-use numbers::written_number;
-use record::operate;
-use record::reply_of;
-use slots::Op;
+use slot_on_bytes::Reply;
+use slot_rules::Op;
+use sparse_rules::Cursor;
+use tarpaulark_numbers::chunk_answer;
+use tarpaulark_numbers::chunk_number;
+use tarpaulark_numbers::cut_answer;
+use tarpaulark_numbers::cut_number;
+use tarpaulark_numbers::header_answer;
+use tarpaulark_numbers::located_answer;
+use tarpaulark_numbers::located_number;
+use tarpaulark_numbers::verdict_answer;
+use tarpaulark_numbers::verdict_number;
+use tarpaulark_numbers::written_answer;
+use tarpaulark_numbers::written_number;
 ghost use mathlib.Core.Path.{_≡_};
 ghost use lib.ListN.{length};
-ghost use Rattle.bootimg.specs.Tests.{located};
-ghost use Rattle.slots.specs.Operations.{freshOf};
-ghost use Rattle.sparse.specs.Answers.{answer};
-ghost use Rattle.sparse_store.specs.Answers.{cutAnswer};
-ghost use Rattle.sparse_store.specs.Store.{store, storeUpTo};
-ghost use Rattle.sparse_write.specs.Write as writer;
-ghost use Rattle.tarpaulark.specs.Numbers.{numberOf, countsOf, cutNumberOf, cutCountsOf, writtenNumber, writtenOf, locatedNumber, layoutOf};
-ghost use Rattle.tarpaulark.specs.Record.{replyOf, onBytes};
+ghost use Rattle.rules.specs.First.{first};
+ghost use Rattle.rules.specs.Answer.{numberOf};
+ghost use Rattle.boot_rules.specs.Tests as boot;
+ghost use Rattle.sparse_rules.specs.Header.{headerOf, headerTests};
+ghost use Rattle.sparse_rules.specs.Answers.{answer};
+ghost use Rattle.sparse_store_rules.specs.Answers.{cutAnswer};
+ghost use Rattle.sparse_store_rules.specs.Store.{store, storeUpTo};
+ghost use Rattle.sparse_write_rules.specs.Write as writer;
+ghost use Rattle.tarpaulark_numbers.specs.Numbers.{verdictNumbers, countNumbers, chunkIn, chunkNumbers, headerNumbersBy, layoutNumbers};
+ghost use Rattle.slot_on_bytes.specs.OnBytes.{onBytes, freshBytes, bytesRefusal};
 
 // Judges an image for a partition of so many bytes. Answers place, blocks written, blocks skipped.
 #[no_mangle]
 pub extern "C" fn tarpaulark_judge(image: &[u8], partition_len: u64, out: &mut [u64; 3]) -> u32
     ensures { λ r. ⌜ (r ≡ numberOf (answer (now (image .entry)) (length (now (image .entry))) «partition_len»))
-        × (now (out .exit) ≡ countsOf (answer (now (image .entry)) (length (now (image .entry))) «partition_len»)) ⌝ }
+        × (now (out .exit) ≡ verdictNumbers (answer (now (image .entry)) (length (now (image .entry))) «partition_len»)) ⌝ }
 {
-    let verdict = sparse::judge(image, partition_len);
+    let verdict = sparse_judge::judge(image, partition_len);
     *out = verdict_answer(verdict);
     verdict_number(verdict)
+}
+
+// Reads the file header of an image, for a partition of so many bytes. Answers block size, total
+// blocks, total chunks, checksum, file header size, chunk header size; all 0 for a refusal.
+#[no_mangle]
+pub extern "C" fn tarpaulark_header(image: &[u8], partition_len: u64, out: &mut [u64; 6]) -> u32
+    ensures { λ r. ⌜ (r ≡ first (headerTests (now (image .entry)) (length (now (image .entry))) «partition_len»))
+        × (now (out .exit) ≡ headerNumbersBy r (headerOf (now (image .entry)))) ⌝ }
+{
+    let number = sparse_read::header_refusal(image, partition_len);
+    if number != 0 {
+        *out = [0; 6];
+        return number;
+    }
+    *out = header_answer(sparse_read::read_header(image));
+    number
+}
+
+// Reads the chunk at an offset of an image, whose first block is given, by the image's own header.
+// Answers place, kind, blocks, the offset of its data, the next chunk's offset and first block.
+#[no_mangle]
+pub extern "C" fn tarpaulark_chunk(image: &[u8], at: u64, first: u32, out: &mut [u64; 6]) -> u32
+    ensures { λ r. ⌜ (r ≡ numberOf (chunkIn (now (image .entry)) at first))
+        × (now (out .exit) ≡ chunkNumbers (chunkIn (now (image .entry)) at first)) ⌝ }
+{
+    let header = sparse_read::read_header(image);
+    let cursor = Cursor {
+        at: at as usize,
+        first,
+    };
+    let read = sparse_read::read_chunk(image, header, cursor);
+    *out = chunk_answer(read);
+    chunk_number(read)
 }
 
 // Stores an image on a partition. Answers as the judge does.
 #[no_mangle]
 pub extern "C" fn tarpaulark_store(image: &[u8], partition: &mut [u8], out: &mut [u64; 3]) -> u32
     ensures { λ r. ⌜ (r ≡ numberOf (answer (now (image .entry)) (length (now (image .entry))) (length (now (partition .entry)))))
-        × (now (out .exit) ≡ countsOf (answer (now (image .entry)) (length (now (image .entry))) (length (now (partition .entry)))))
+        × (now (out .exit) ≡ verdictNumbers (answer (now (image .entry)) (length (now (image .entry))) (length (now (partition .entry)))))
         × (now (partition .exit) ≡ store (now (image .entry)) (now (partition .entry))) ⌝ }
 {
     let verdict = sparse_store::store(image, partition);
@@ -60,8 +92,8 @@ pub extern "C" fn tarpaulark_store_limited(
     limit: u64,
     out: &mut [u64; 2],
 ) -> u32
-    ensures { λ r. ⌜ (r ≡ cutNumberOf (cutAnswer limit (now (image .entry)) (length (now (partition .entry)))))
-        × (now (out .exit) ≡ cutCountsOf (cutAnswer limit (now (image .entry)) (length (now (partition .entry)))))
+    ensures { λ r. ⌜ (r ≡ numberOf (cutAnswer limit (now (image .entry)) (length (now (partition .entry)))))
+        × (now (out .exit) ≡ countNumbers (cutAnswer limit (now (image .entry)) (length (now (partition .entry)))))
         × (now (partition .exit) ≡ storeUpTo limit (now (image .entry)) (now (partition .entry))) ⌝ }
 {
     let stored = sparse_store::store_limited(image, partition, limit);
@@ -77,8 +109,8 @@ pub extern "C" fn tarpaulark_write(
     image: &mut [u8],
     out: &mut [u64; 2],
 ) -> u32
-    ensures { λ r. ⌜ (r ≡ writtenNumber (writer.answer (now (flat .entry)) «block_size» (length (now (image .entry)))))
-        × (now (out .exit) ≡ writtenOf (writer.answer (now (flat .entry)) «block_size» (length (now (image .entry)))))
+    ensures { λ r. ⌜ (r ≡ numberOf (writer.answer (now (flat .entry)) «block_size» (length (now (image .entry)))))
+        × (now (out .exit) ≡ countNumbers (writer.answer (now (flat .entry)) «block_size» (length (now (image .entry)))))
         × (now (image .exit) ≡ writer.output (now (flat .entry)) «block_size» (now (image .entry))) ⌝ }
 {
     let written = sparse_write::write(flat, block_size, image);
@@ -90,28 +122,38 @@ pub extern "C" fn tarpaulark_write(
 // dtb and signature whether it is present, its position and its size.
 #[no_mangle]
 pub extern "C" fn tarpaulark_locate(image: &[u8], out: &mut [u64; 19]) -> u32
-    ensures { λ r. ⌜ (r ≡ locatedNumber (located (now (image .entry))))
-        × (now (out .exit) ≡ layoutOf (located (now (image .entry)))) ⌝ }
+    ensures { λ r. ⌜ (r ≡ numberOf (boot.answer (now (image .entry))))
+        × (now (out .exit) ≡ layoutNumbers (boot.answer (now (image .entry)))) ⌝ }
 {
-    let found = bootimg::locate(image);
+    let found = boot_image::locate(image);
     *out = located_answer(found);
     located_number(found)
 }
 
-// Makes a fresh slot record. Answers kind and started slot, as each slot operation does.
-#[no_mangle]
-pub extern "C" fn tarpaulark_slots_fresh(slots: u8, bytes: &mut [u8; 17], out: &mut [u64; 2]) -> u32
-    ensures { λ r. ⌜ (r ≡ replyOf (freshOf slots) .number)
-        × (now (out .exit) ≡ replyOf (freshOf slots) .answer)
-        × (now (bytes .exit) ≡ replyOf (freshOf slots) .bytes) ⌝ }
+// Hands a reply over: its bytes and its array to what is lent, its number to the caller.
+fn hand_over(made: Reply, bytes: &mut [u8; 17], out: &mut [u64; 2]) -> u32
+    ensures { λ r. ⌜ (r ≡ made .number) × (now (out .exit) ≡ made .answer) × (now (bytes .exit) ≡ made .bytes) ⌝ }
 {
-    let c = slots::fresh(slots);
-    let made = reply_of(c);
     let after = made.bytes;
     let told = made.answer;
     *bytes = after;
     *out = told;
     made.number
+}
+
+// Makes a fresh slot record. Answers kind and started slot, as each slot operation does; a refusal leaves the bytes.
+#[no_mangle]
+pub extern "C" fn tarpaulark_slots_fresh(
+    slots: u32,
+    bytes: &mut [u8; 17],
+    out: &mut [u64; 2],
+) -> u32
+    ensures { λ r. ⌜ (r ≡ freshBytes slots (now (bytes .entry)) .number)
+        × (now (out .exit) ≡ freshBytes slots (now (bytes .entry)) .answer)
+        × (now (bytes .exit) ≡ freshBytes slots (now (bytes .entry)) .bytes) ⌝ }
+{
+    let made = slot_on_bytes::fresh(*bytes, slots);
+    hand_over(made, bytes, out)
 }
 
 // Start.
@@ -121,50 +163,38 @@ pub extern "C" fn tarpaulark_slots_start(bytes: &mut [u8; 17], out: &mut [u64; 2
         × (now (out .exit) ≡ onBytes Op.Start (now (bytes .entry)) .answer)
         × (now (bytes .exit) ≡ onBytes Op.Start (now (bytes .entry)) .bytes) ⌝ }
 {
-    let made = operate(*bytes, Op::Start);
-    let after = made.bytes;
-    let told = made.answer;
-    *bytes = after;
-    *out = told;
-    made.number
+    let made = slot_on_bytes::operate(*bytes, Op::Start);
+    hand_over(made, bytes, out)
 }
 
 // Set active.
 #[no_mangle]
 pub extern "C" fn tarpaulark_slots_set_active(
     bytes: &mut [u8; 17],
-    slot: u8,
+    slot: u32,
     out: &mut [u64; 2],
 ) -> u32
     ensures { λ r. ⌜ (r ≡ onBytes (Op.SetActive slot) (now (bytes .entry)) .number)
         × (now (out .exit) ≡ onBytes (Op.SetActive slot) (now (bytes .entry)) .answer)
         × (now (bytes .exit) ≡ onBytes (Op.SetActive slot) (now (bytes .entry)) .bytes) ⌝ }
 {
-    let made = operate(*bytes, Op::SetActive(slot));
-    let after = made.bytes;
-    let told = made.answer;
-    *bytes = after;
-    *out = told;
-    made.number
+    let made = slot_on_bytes::set_active(*bytes, slot);
+    hand_over(made, bytes, out)
 }
 
 // Partition modified.
 #[no_mangle]
 pub extern "C" fn tarpaulark_slots_modified(
     bytes: &mut [u8; 17],
-    slot: u8,
+    slot: u32,
     out: &mut [u64; 2],
 ) -> u32
     ensures { λ r. ⌜ (r ≡ onBytes (Op.Modified slot) (now (bytes .entry)) .number)
         × (now (out .exit) ≡ onBytes (Op.Modified slot) (now (bytes .entry)) .answer)
         × (now (bytes .exit) ≡ onBytes (Op.Modified slot) (now (bytes .entry)) .bytes) ⌝ }
 {
-    let made = operate(*bytes, Op::Modified(slot));
-    let after = made.bytes;
-    let told = made.answer;
-    *bytes = after;
-    *out = told;
-    made.number
+    let made = slot_on_bytes::partition_modified(*bytes, slot);
+    hand_over(made, bytes, out)
 }
 
 // Confirm. The system calls this, never the loader.
@@ -174,10 +204,14 @@ pub extern "C" fn tarpaulark_slots_confirm(bytes: &mut [u8; 17], out: &mut [u64;
         × (now (out .exit) ≡ onBytes Op.Confirm (now (bytes .entry)) .answer)
         × (now (bytes .exit) ≡ onBytes Op.Confirm (now (bytes .entry)) .bytes) ⌝ }
 {
-    let made = operate(*bytes, Op::Confirm);
-    let after = made.bytes;
-    let told = made.answer;
-    *bytes = after;
-    *out = told;
-    made.number
+    let made = slot_on_bytes::operate(*bytes, Op::Confirm);
+    hand_over(made, bytes, out)
+}
+
+// Whether bytes are a valid slot record: 0, or 31.
+#[no_mangle]
+pub extern "C" fn tarpaulark_slots_valid(bytes: &[u8; 17]) -> u32
+    ensures { λ r. ⌜ r ≡ bytesRefusal (now (bytes .entry)) ⌝ }
+{
+    slot_on_bytes::bytes_refusal(*bytes)
 }

@@ -1,77 +1,76 @@
 // Runs the cases of data/ through the libraries and prints a line for each.
 //
-// The cases and the lines that must come out are made by tests/reference/vectors.py, which says how
-// a case is laid out; nothing here knows what a right answer is.
-mod boot_cases;
+// The arguments are the files of the groups, in the order of the constants below. The cases and the lines that must
+// come out are made by tests/reference/vectors.py, which says how a case is laid out; nothing here knows what a
+// right answer is.
 mod crc_cases;
 mod field_cases;
-mod images;
+mod image_cases;
 mod slot_cases;
-mod sparse_cases;
 mod store_cases;
 mod support;
-mod write_cases;
 
-use support::load;
+use libc::STDOUT_FILENO;
+use support::part;
 use support::past;
+use support::value;
 
-// The groups of cases, in the order of their lines.
-const CRC: u32 = 0;
+// The groups of cases.
+const CRC: usize = 1;
 
-const FIELDS: u32 = 1;
+const FIELDS: usize = 2;
 
-const SLOTS: u32 = 2;
+const SLOTS: usize = 3;
 
-const SLOT_BLOCKS: u32 = 3;
+const SLOT_BLOCKS: usize = 4;
 
-const BOOT: u32 = 4;
+const BOOT: usize = 5;
 
-const SPARSE: u32 = 5;
+const SPARSE: usize = 6;
 
-const STORE: u32 = 6;
+const STORE: usize = 7;
 
-const WRITE: u32 = 7;
+const WRITE: usize = 8;
 
-// Prints the line of a group's case at `at`, and answers how many bytes the case takes.
-fn case(group: u32, file: &[u8], at: usize, index: u64) -> usize {
-    match group {
-        CRC => crc_cases::case(file, at, index),
-        FIELDS => field_cases::case(file, at, index),
-        SLOTS => slot_cases::case(file, at, index),
-        SLOT_BLOCKS => slot_cases::block(file, at, index),
-        BOOT => boot_cases::case(file, at, index),
-        SPARSE => sparse_cases::case(file, at, index),
-        STORE => store_cases::case(file, at, index),
-        WRITE => write_cases::case(file, at, index),
-        _ => 1,
-    }
-}
-
-// The cases of a group's file, one after the other.
-fn cases(group: u32, file: &[u8]) {
+// The lines of a group's cases, one after the other: the group's name, the case's number, its values.
+fn cases(group: usize, name: &[u8], file: &[u8]) {
     let mut at: usize = 0;
     let mut index: u64 = 0;
     while at < file.len() {
-        let len = case(group, file, at, index);
+        io::write_all(STDOUT_FILENO, name);
+        value(index);
+        let rest = part(file, at, file.len());
+        let len = match group {
+            CRC => crc_cases::case(rest),
+            FIELDS => field_cases::case(rest),
+            SLOTS => slot_cases::case(rest),
+            SLOT_BLOCKS => slot_cases::block(rest),
+            BOOT => image_cases::boot(rest),
+            SPARSE => image_cases::sparse(rest),
+            STORE => store_cases::case(rest),
+            _ => image_cases::write(rest),
+        };
+        io::write_all(STDOUT_FILENO, b"\n");
         at = past(file, at, len);
         index = index + 1;
     }
 }
 
-// The cases of a group, from its file.
-fn run(group: u32, name: &[u8]) {
-    let mut buf = [0u8; 262144];
-    let n = load(name, &mut buf);
-    cases(group, &buf[..n]);
-}
-
+// The groups, each from its file, whose name is the group's and `.bin`.
 fn main() {
-    run(CRC, b"crc.bin");
-    run(FIELDS, b"fields.bin");
-    run(SLOTS, b"slots.bin");
-    run(SLOT_BLOCKS, b"slotsum.bin");
-    run(BOOT, b"boot.bin");
-    run(SPARSE, b"sparse.bin");
-    run(STORE, b"store.bin");
-    run(WRITE, b"write.bin");
+    for group in CRC..WRITE + 1 {
+        let mut path = io::buffer();
+        let len = os::arg(group, &mut path);
+        let fd = os::open_read(&path[..len]);
+        if fd < 0 {
+            os::fail(&path[..len]);
+            return;
+        }
+        let mut file = [0u8; 262144];
+        let n = io::read_full(fd, &mut file);
+        libc::close(fd);
+        if 4 <= len {
+            cases(group, part(&path, 0, len - 4), &file[..n]);
+        }
+    }
 }

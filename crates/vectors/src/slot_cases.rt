@@ -1,148 +1,61 @@
-// The slot record: every operation on a record by value, and on a lent one.
-use crate::support::begin;
-use crate::support::byte;
-use crate::support::end;
+// The slot record: every operation on the bytes of a record.
 use crate::support::part;
 use crate::support::value;
-use slots::Changed;
-use slots::Op;
-use slots::Outcome;
-use slots::Record;
-use slots::Slot;
 
 // The bytes of a case: operation, argument, record.
 const CASE: usize = 19;
 
-// The slot in the four bytes at `at`.
-fn slot_at(bytes: &[u8], at: usize) -> Slot {
-    let used = part(bytes, at, 4);
-    Slot {
-        used: byte(used, 0) != 0,
-        unbootable: byte(used, 1) != 0,
-        successful: byte(used, 2) != 0,
-        tries: byte(used, 3),
+// The values of a case, a byte each: number, kind, slot, and the record after.
+fn gathered(number: u32, kind: &[u64; 2], record: &[u8; 17]) -> [u8; 20] {
+    let mut all = [0u8; 20];
+    fields::copy(&mut all, 3, record);
+    all[0] = (number % 256) as u8;
+    all[1] = (kind[0] % 256) as u8;
+    all[2] = (kind[1] % 256) as u8;
+    all
+}
+
+// A fresh record over zeros, which are the record that a refused number of slots gives.
+fn fresh(slots: u32, record: &mut [u8; 17], kind: &mut [u64; 2]) -> u32 {
+    *record = [0; 17];
+    tarpaulark::tarpaulark_slots_fresh(slots, record, kind)
+}
+
+// What the operation of a case answers and leaves.
+fn outcome(case: &[u8]) -> [u8; 20] {
+    let head = fields::read16(case, 0);
+    let argument = (head / 256) as u32;
+    let mut record = [0u8; 17];
+    fields::copy(&mut record, 0, part(case, 2, 17));
+    let mut kind = [0u64; 2];
+    let number = match head % 256 {
+        0 => fresh(argument, &mut record, &mut kind),
+        1 => tarpaulark::tarpaulark_slots_start(&mut record, &mut kind),
+        2 => tarpaulark::tarpaulark_slots_set_active(&mut record, argument, &mut kind),
+        3 => tarpaulark::tarpaulark_slots_modified(&mut record, argument, &mut kind),
+        _ => tarpaulark::tarpaulark_slots_confirm(&mut record, &mut kind),
+    };
+    gathered(number, &kind, &record)
+}
+
+// Prints the values of the case at the start of rest, and answers how many bytes it takes.
+pub(crate) fn case(rest: &[u8]) -> usize {
+    let all = outcome(rest);
+    for i in 0usize..20 {
+        value(all[i] as u64);
     }
-}
-
-// The record of a case.
-fn record_of(bytes: &[u8]) -> Record {
-    let a = slot_at(bytes, 2);
-    let b = slot_at(bytes, 6);
-    let c = slot_at(bytes, 10);
-    let d = slot_at(bytes, 14);
-    Record {
-        slots: [a, b, c, d],
-        current: byte(bytes, 18),
-    }
-}
-
-// The case's operation on its record by value.
-fn changed(bytes: &[u8]) -> Changed {
-    let r = record_of(bytes);
-    let argument = byte(bytes, 1);
-    let op = byte(bytes, 0);
-    match op {
-        0 => slots::fresh(argument),
-        1 => slots::start(r),
-        2 => slots::set_active(r, argument),
-        3 => slots::partition_modified(r, argument),
-        _ => slots::confirm(r),
-    }
-}
-
-// The case's operation on its record, lent.
-fn changed_lent(bytes: &[u8]) -> Changed {
-    let r = record_of(bytes);
-    let argument = byte(bytes, 1);
-    let op = byte(bytes, 0);
-    match op {
-        0 => slots::fresh(argument),
-        1 => slots::lent::operate(r, Op::Start),
-        2 => slots::lent::operate(r, Op::SetActive(argument)),
-        3 => slots::lent::operate(r, Op::Modified(argument)),
-        _ => slots::lent::operate(r, Op::Confirm),
-    }
-}
-
-// A bool as a number.
-fn flag(b: bool) -> u8 {
-    if b { 1 } else { 0 }
-}
-
-// An answer's number, kind and slot.
-fn answer_of(a: Outcome) -> [u8; 3] {
-    match a {
-        Outcome::Done => [0, 0, 0],
-        Outcome::Starts(k) => [0, 1, k],
-        Outcome::Recovery => [0, 2, 0],
-        Outcome::Refused(n) => [(n % 256) as u8, 3, 0],
-    }
-}
-
-// The four values of a slot.
-fn slot_values(s: Slot) -> [u8; 4] {
-    [
-        flag(s.used),
-        flag(s.unbootable),
-        flag(s.successful),
-        s.tries,
-    ]
-}
-
-// Prints each byte of a list of values.
-fn print_bytes(bytes: &[u8]) {
-    let mut i: usize = 0;
-    while i < bytes.len() {
-        value(byte(bytes, i) as u64);
-        i = i + 1;
-    }
-}
-
-// Prints the four values of a slot.
-fn print_slot(s: Slot) {
-    print_bytes(&slot_values(s));
-}
-
-// Prints the line of the case at `at`, and answers how many bytes the case takes.
-pub fn case(file: &[u8], at: usize, index: u64) -> usize {
-    let c = changed(part(file, at, CASE));
-    let answer = c.answer;
-    let r = c.after;
-    begin(b"slots", index);
-    print_bytes(&answer_of(answer));
-    print_slot(r.slots[0]);
-    print_slot(r.slots[1]);
-    print_slot(r.slots[2]);
-    print_slot(r.slots[3]);
-    value(r.current as u64);
-    end();
     CASE
 }
 
-// The state of a checksum after the values of a case.
-fn summed(state: u32, bytes: &[u8]) -> u32 {
-    let c = changed_lent(bytes);
-    let answer = c.answer;
-    let r = c.after;
-    let mut s = crc32::update(state, &answer_of(answer));
-    s = crc32::update(s, &slot_values(r.slots[0]));
-    s = crc32::update(s, &slot_values(r.slots[1]));
-    s = crc32::update(s, &slot_values(r.slots[2]));
-    s = crc32::update(s, &slot_values(r.slots[3]));
-    crc32::update(s, &[r.current])
-}
-
-// Prints the line of the block of up to 64 cases at `at`, and answers how many bytes it takes.
-pub fn block(file: &[u8], at: usize, index: u64) -> usize {
-    let cases = part(file, at, 64 * CASE);
+// Prints the checksum over the values of the up to 64 cases at the start of rest, and answers how many bytes they take.
+pub(crate) fn block(rest: &[u8]) -> usize {
+    let cases = part(rest, 0, 64 * CASE);
     let mut state = crc32::start();
     let mut done: usize = 0;
     while done < cases.len() {
-        state = summed(state, part(cases, done, CASE));
+        state = crc32::update(state, &outcome(part(cases, done, CASE)));
         done = done + CASE;
     }
-    begin(b"slotsum", index);
     value(crc32::finish(state) as u64);
-    end();
     64 * CASE
 }

@@ -1,17 +1,11 @@
 // Lists of images stored with cuts and torn blocks, and then in full.
-use crate::images::build;
-use crate::images::image_len;
-use crate::images::lay;
-use crate::sparse_cases::print_verdict;
-use crate::support::begin;
-use crate::support::byte;
-use crate::support::end;
+use crate::support::build;
 use crate::support::least;
 use crate::support::part;
 use crate::support::past;
 use crate::support::prepare;
 use crate::support::value;
-use sparse_store::Stored;
+use crate::support::verdict;
 
 // Where the images of a case begin: after its length, its seed and their number.
 const IMAGES: usize = 9;
@@ -19,80 +13,61 @@ const IMAGES: usize = 9;
 // The bytes before a run's torn block: cut, limit, offset, count.
 const RUN: usize = 20;
 
-// Stores an image in full, and answers how many bytes its form takes.
-fn store_image(form: &[u8], partition: &mut [u8], print: bool) -> usize {
-    let mut buf = io::large_buffer();
-    let taken = build(form, &mut buf);
-    let n = image_len(form, &buf);
-    let v = sparse_store::store(&buf[..n], partition);
-    if print {
-        print_verdict(v);
-    }
-    taken
-}
-
 // Stores so many images in full, and answers where the next begins.
 fn store_images(case: &[u8], partition: &mut [u8], images: u32, print: bool) -> usize {
     let mut at = IMAGES;
     let mut left = images;
     while 0 < left {
-        let taken = store_image(part(case, at, case.len()), partition, print);
-        at = past(case, at, taken);
+        let form = part(case, at, case.len());
+        let mut buf = io::large_buffer();
+        at = past(case, at, build(form, &mut buf));
+        let image = part(&buf, 0, fields::read32(form, 0) as usize);
+        let mut out = [0u64; 3];
+        let number = tarpaulark::tarpaulark_store(image, partition, &mut out);
         left = left - 1;
+        if print {
+            verdict(number, &out);
+        }
     }
     at
 }
 
-// Prints the answer of the cut form.
-fn print_stored(s: Stored) {
-    match s {
-        Stored::Refused(f) => {
-            value(f.number as u64);
-            value(f.place);
-            value(0);
-        }
-        Stored::Blocks(n) => {
-            value(0);
-            value(0);
-            value(n);
-        }
-    }
-}
-
-// The cut form of an image, where the run comes to it, and its answer.
+// Stores an image up to a run's limit, where the run comes to it: the number, the place and the blocks stored.
 fn cut_image(form: &[u8], partition: &mut [u8], limit: u64, reached: bool) {
+    let mut out = [0u64; 2];
     if reached {
         let mut buf = io::large_buffer();
         build(form, &mut buf);
-        let n = image_len(form, &buf);
-        print_stored(sparse_store::store_limited(&buf[..n], partition, limit));
+        let image = part(&buf, 0, fields::read32(form, 0) as usize);
+        let number = tarpaulark::tarpaulark_store_limited(image, partition, limit, &mut out);
+        value(number as u64);
+        value(out[0]);
+        value(out[1]);
         return;
     }
-    print_stored(Stored::Blocks(0));
+    value(0);
+    value(0);
+    value(0);
 }
 
 // One run that is cut: its answer and the partition's checksum. Answers how many bytes it takes.
 fn cut_run(case: &[u8], run: &[u8], partition: &mut [u8], images: u32) -> usize {
     let cut = fields::read32(run, 0);
-    let count = fields::read32(run, 16) as usize;
     let at = store_images(case, partition, cut, false);
-    cut_image(
-        part(case, at, case.len()),
-        partition,
-        fields::read64(run, 4),
-        cut < images,
-    );
-    lay(
-        part(run, RUN, count),
-        partition,
-        fields::read32(run, 12) as usize,
-    );
+    let form = part(case, at, case.len());
+    cut_image(form, partition, fields::read64(run, 4), cut < images);
+    let count = fields::read32(run, 16) as usize;
+    let torn = part(run, RUN, count);
+    fields::copy(partition, fields::read32(run, 12) as usize, torn);
     value(crc32::checksum(partition) as u64);
     RUN + count
 }
 
-// All runs of a case, and its full run. Answers how many bytes the case takes.
-fn runs(case: &[u8], partition: &mut [u8], images: u32, first: usize) -> usize {
+// All runs of a case, and its full run. Answers how many bytes the case takes. The images' forms are passed over
+// first, to find the runs.
+fn runs(case: &[u8], partition: &mut [u8], images: u32) -> usize {
+    let first = store_images(case, &mut partition[..0], images, false);
+    prepare(partition, (fields::read16(case, 4) % 256) as u8, 7);
     let mut at = past(case, first, 4);
     let mut left = fields::read32(part(case, first, 4), 0);
     while 0 < left {
@@ -105,21 +80,9 @@ fn runs(case: &[u8], partition: &mut [u8], images: u32, first: usize) -> usize {
     at
 }
 
-// The case on its partition: the images' forms are passed over first, to find the runs.
-fn run_case(case: &[u8], partition: &mut [u8], images: u32) -> usize {
-    let first = store_images(case, &mut partition[..0], images, false);
-    prepare(partition, byte(case, 4), 7);
-    runs(case, partition, images, first)
-}
-
-// Prints the line of the case at `at`, and answers how many bytes the case takes.
-pub fn case(file: &[u8], at: usize, index: u64) -> usize {
-    let case = part(file, at, file.len());
-    let images = fields::read32(part(case, 5, 4), 0);
+// Prints the values of the case at the start of rest, and answers how many bytes it takes.
+pub(crate) fn case(rest: &[u8]) -> usize {
     let mut buf = io::buffer();
-    let n = least(fields::read32(case, 0) as usize, &buf);
-    begin(b"store", index);
-    let taken = run_case(case, &mut buf[..n], images);
-    end();
-    taken
+    let n = least(fields::read32(rest, 0) as usize, &buf);
+    runs(rest, &mut buf[..n], fields::read32(rest, 5))
 }

@@ -1,24 +1,12 @@
-// What every group of cases uses: its file, parts of it, and the line of a case.
+// What every group of cases uses: parts of its file, the values of a line, and images, which are kept as patches
+// over zeros.
 use libc::STDOUT_FILENO;
 ghost use Prim.Native.Nat.{_<_};
 ghost use lib.ListN.{length};
 ghost use Rattle.io.specs.Counts.{Counts};
 
-// Reads the file of a group into buf, and answers how many bytes of buf it fills.
-pub fn load(name: &[u8], buf: &mut [u8]) -> usize
-    ensures { λ r. ⌜ Counts r (now (buf .exit)) ⌝ }
-{
-    let fd = os::open_read(name);
-    if fd < 0 {
-        os::fail(name);
-    }
-    let n = io::read_full(fd, buf);
-    libc::close(fd);
-    n
-}
-
 // The `len` bytes of file at `at`, or as many of them as there are.
-pub fn part(file: &[u8], at: usize, len: usize) -> &[u8] {
+pub(crate) fn part(file: &[u8], at: usize, len: usize) -> &[u8] {
     if file.len() < at {
         return &file[..0];
     }
@@ -30,7 +18,7 @@ pub fn part(file: &[u8], at: usize, len: usize) -> &[u8] {
 }
 
 // The place `by` bytes past `at`, or the end of file: past `at` in any case.
-pub fn past(file: &[u8], at: usize, by: usize) -> usize
+pub(crate) fn past(file: &[u8], at: usize, by: usize) -> usize
     ensures { λ r. ⌜ (at < length (now (file .entry)) → at < r) ⌝ }
 {
     if at < file.len() {
@@ -43,32 +31,15 @@ pub fn past(file: &[u8], at: usize, by: usize) -> usize
     file.len()
 }
 
-// The byte at `at`, and 0 past the end.
-pub fn byte(bytes: &[u8], at: usize) -> u8 {
-    (fields::read16(bytes, at) % 256) as u8
-}
-
 // How many bytes of a buffer so many fill.
-pub fn least(len: usize, buf: &[u8]) -> usize
+pub(crate) fn least(len: usize, buf: &[u8]) -> usize
     ensures { λ r. ⌜ Counts r (now (buf .entry)) ⌝ }
 {
     if len < buf.len() { len } else { buf.len() }
 }
 
-// Copies src to the start of dst, as far as both go.
-pub fn copy(src: &[u8], dst: &mut [u8]) {
-    let mut i: usize = 0;
-    while i < src.len() {
-        if dst.len() <= i {
-            return;
-        }
-        dst[i] = src[i];
-        i = i + 1;
-    }
-}
-
 // Fills a buffer with bytes that begin with one and go up by a step each time.
-pub fn prepare(out: &mut [u8], first: u8, step: u8) {
+pub(crate) fn prepare(out: &mut [u8], first: u8, step: u8) {
     let mut b = first;
     let mut i: usize = 0;
     while i < out.len() {
@@ -78,19 +49,32 @@ pub fn prepare(out: &mut [u8], first: u8, step: u8) {
     }
 }
 
-// Begins the line of a case: its group and its number.
-pub fn begin(group: &[u8], index: u64) {
-    io::write_all(STDOUT_FILENO, group);
-    value(index);
-}
-
-// A number of the line, after a space.
-pub fn value(n: u64) {
+// Prints a value of the line, after a space.
+pub(crate) fn value(n: u64) {
     io::write_all(STDOUT_FILENO, b" ");
     io::print_decimal(STDOUT_FILENO, n);
 }
 
-// Ends the line.
-pub fn end() {
-    io::write_all(STDOUT_FILENO, b"\n");
+// Prints the number of a verdict, its place, and the blocks written and skipped.
+pub(crate) fn verdict(number: u32, out: &[u64; 3]) {
+    value(number as u64);
+    value(out[0]);
+    value(out[1]);
+    value(out[2]);
+}
+
+// Builds an image over zeros from its form: length, number of patches, and each patch with its offset.
+// Answers how many bytes the form takes.
+pub(crate) fn build(form: &[u8], out: &mut [u8]) -> usize {
+    let mut at: usize = 8;
+    let mut left = fields::read32(form, 4);
+    while 0 < left {
+        let patch = part(form, at, form.len());
+        let count = fields::read32(patch, 4) as usize;
+        let bytes = part(patch, 8, count);
+        fields::copy(out, fields::read32(patch, 0) as usize, bytes);
+        at = past(form, at, 8 + count);
+        left = left - 1;
+    }
+    at
 }

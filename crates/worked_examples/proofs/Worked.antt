@@ -1,32 +1,33 @@
 -- The worked examples P1 to P14 and the lister's text, computed together: every call of the table gives back what its row says.
 -- Assumes nothing.
-use mathlib.Core.Path.{_≡_, refl}
-use mathlib.Core.List.{map}
+use mathlib.Core.Path.{refl}
 use lib.Count.{ones, onesIn}
-use Rattle.fields.specs.Le.{le}
-use Rattle.crc32.specs.Crc.{bit, steps, byteStep, crcFrom, crc32}
-use Rattle.slots.specs.Records.{slotsValid, valid}
-use Rattle.slots.specs.Operations.{firstFrom, startOf}
-use Rattle.bootimg.specs.Sections.{sectionsOf}
-use Rattle.bootimg.specs.Table.{rowOf}
-use Rattle.bootimg.specs.Tests.{tests, refusal, saying}
-use Rattle.sparse.specs.Header.{headerTests}
-use Rattle.sparse.specs.Chunks.{kindOf, sizeRight, chunkTests, chunkAt, reading, endTests, walk}
-use Rattle.sparse.specs.Cells.{cellsBy, cellsOf, cells, zeroed, checksumOf}
-use Rattle.sparse.specs.Cells as counted
-use Rattle.sparse.specs.Judge.{sumTests, summed, structure, judged, effectOf, effect}
-use Rattle.sparse.specs.Answers as judge
-use Rattle.sparse_store.specs.Store.{store}
-use Rattle.sparse_write.specs.Blocks.{blockCells, blocksAt, flatBlocks}
-use Rattle.sparse_write.specs.Runs.{runs}
-use Rattle.sparse_write.specs.Encode.{same, storedKind, packed, chunkHeader, size, chunk, chunks, version, header, image, encode}
-use Rattle.sparse_write.specs.Write as write
-use Rattle.listing.specs.Words.{digitsUpTo, decimal, kindWord}
-use Rattle.listing.specs.Lines.{labelled, refusedLine, headerLine, chunkLine, chunkLines, lastLine}
-use Rattle.listing.specs.Text.{findingText, text}
-use Rattle.worked_examples.specs.Calls.{Row, perform}
-use Rattle.worked_examples.specs.Table.{table}
+use Rattle.fields_rules.specs.Number.{numberAt}
+use Rattle.crc32_rules.specs.Crc.{bit, steps, byteStep, crcFrom, crc32}
+use Rattle.slot_rules.specs.Records.{slotsValid, valid}
+use Rattle.slot_rules.specs.Operations.{firstFrom, startOf}
+use Rattle.boot_rules.specs.Sections.{sectionsOf}
+use Rattle.boot_rules.specs.Table.{rowOf}
+use Rattle.boot_rules.specs.Tests as boot
+use Rattle.sparse_rules.specs.Header.{headerTests}
+use Rattle.sparse_rules.specs.Chunks.{kindOf, sizeRight, chunkTests, chunkAt, reading}
+use Rattle.sparse_rules.specs.Walk.{endTests, walk}
+use Rattle.sparse_rules.specs.Cells.{cellsBy, cellsOf, cells, zeroed, checksumOf}
+use Rattle.sparse_rules.specs.Cells as counted
+use Rattle.sparse_rules.specs.Judge.{sumTests, summed, structure, judged, effectOf, effect}
+use Rattle.sparse_rules.specs.Answers as judge
+use Rattle.sparse_store_rules.specs.Store.{store}
+use Rattle.sparse_write_rules.specs.Blocks.{blockCells, blocksFrom, flatBlocks}
+use Rattle.sparse_write_rules.specs.Runs.{runs}
+use Rattle.sparse_write_rules.specs.Kinds.{allEqual, storedKind}
+use Rattle.sparse_write_rules.specs.Encode.{packed, chunkHeader, chunk, chunks, version, header, image, encode}
+use Rattle.sparse_write_rules.specs.Write as write
+use Rattle.text.specs.Words.{digitsUpTo, decimal, labelled}
+use Rattle.sparse_lines.specs.Lines.{refusedLine, headerLine, kindWord, chunkLine, lastLine}
+use Rattle.sparse_listing.specs.Listing.{chunkLines, listingOf, listing}
+use Rattle.worked_examples.specs.Calls.{perform}
+use Rattle.worked_examples.specs.Table.{Worked}
 
-pub worked : map (λ (r : Row). perform (r .call)) table ≡ map (λ (r : Row). r .result) table
-unfolding perform le ones onesIn bit steps byteStep crcFrom crc32 slotsValid valid firstFrom startOf sectionsOf rowOf tests refusal saying headerTests kindOf sizeRight chunkTests chunkAt reading endTests walk cellsBy cellsOf cells zeroed checksumOf counted.written counted.skipped sumTests summed structure judged effectOf effect judge.answerFor judge.answer store blockCells blocksAt flatBlocks runs same storedKind packed chunkHeader size chunk chunks version header image encode write.flatImage write.writeTests write.answer write.output text findingText labelled refusedLine headerLine chunkLine chunkLines lastLine digitsUpTo decimal kindWord
+pub worked : Worked
+unfolding perform numberAt ones onesIn bit steps byteStep crcFrom crc32 slotsValid valid firstFrom startOf sectionsOf rowOf boot.headTests boot.sectionTests boot.answer headerTests kindOf sizeRight chunkTests chunkAt reading endTests walk cellsBy cellsOf cells zeroed checksumOf counted.written counted.skipped sumTests summed structure judged effectOf effect judge.answerFor judge.answer store blockCells blocksFrom flatBlocks runs allEqual storedKind packed chunkHeader chunk chunks version header image encode write.flatImage write.writeTests write.answer write.output listing listingOf labelled refusedLine headerLine chunkLine chunkLines lastLine digitsUpTo decimal kindWord
 worked = refl

@@ -3,14 +3,16 @@
 use mathlib.Core.List.{List}
 use Prim.Native.Nat.{ℕ}
 use lib.ListN.{length}
-use Rattle.slots.specs.declared.Record.{Record}
-use Rattle.slots.specs.Answers.{Change}
-use Rattle.slots.specs.Operations.{startOf}
-use Rattle.bootimg.specs.Tests.{Saying, saying}
-use Rattle.sparse.specs.Answers as judge
-use Rattle.sparse_store.specs.Store as store
-use Rattle.sparse_write.specs.Write as write
-use Rattle.listing.specs.Text.{text}
+use Rattle.slot_rules.specs.declared.Record.{Record}
+use Rattle.slot_rules.specs.Answers.{Change}
+use Rattle.slot_rules.specs.Operations.{startOf}
+use Rattle.rules.specs.Answer.{Answer}
+use Rattle.boot_rules.specs.declared.Layout.{Layout}
+use Rattle.boot_rules.specs.Tests as boot
+use Rattle.sparse_rules.specs.Answers as judge
+use Rattle.sparse_store_rules.specs.Store as store
+use Rattle.sparse_write_rules.specs.Write as write
+use Rattle.sparse_listing.specs.Listing.{listing}
 
 -- a call: an image stored on what a partition holds, flat bytes written at a block size into what an output holds, a boot image located, a slot record started, an image listed
 pub data Call : Type 0 where
@@ -22,9 +24,9 @@ pub data Call : Type 0 where
 
 -- what comes back: the answer, and the contents of what was lent
 pub data Result : Type 0 where
-  stored : judge.Answer → List ℕ → Result
-  written : write.Answer → List ℕ → Result
-  located : Saying → Result
+  stored : Answer judge.Counts → List ℕ → Result
+  written : Answer ℕ → List ℕ → Result
+  located : Answer Layout → Result
   started : Change → Result
   listed : List ℕ → Result
 
@@ -32,9 +34,9 @@ pub data Result : Type 0 where
 unfoldable pub perform : Call → Result
 perform (stores s p) = stored (judge.answer s (length s) (length p)) (store.store s p)
 perform (writes d b out) = written (write.answer d b (length out)) (write.output d b out)
-perform (locates s) = located (saying s)
+perform (locates s) = located (boot.answer s)
 perform (starts r) = started (startOf r)
-perform (lists s) = listed (text s)
+perform (lists s) = listed (listing s)
 
 -- a row of the table: a call, and what must come back
 pub record Row : Type 0 where

@@ -4,11 +4,11 @@ use mathlib.Core.Bool.{Bool, true, false}
 use mathlib.Core.List.{List, [], _∷_, _++_}
 use Prim.Native.Nat.{ℕ, zero, suc, _-_}
 use lib.ListN.{replicate}
-use Rattle.fields.specs.Le.{bytes}
-use Rattle.slots.specs.declared.Slot.{Slot}
-use Rattle.slots.specs.declared.Record.{Record}
-use Rattle.bootimg.specs.declared.Section.{Section}
-use Rattle.bootimg.specs.Tests.{Saying}
+use Rattle.fields_rules.specs.Number.{bytes}
+use Rattle.slot_rules.specs.declared.Slot.{Slot}
+use Rattle.slot_rules.specs.declared.Record.{Record}
+use Rattle.boot_rules.specs.declared.Section.{Section}
+use Rattle.boot_rules.specs.declared.Layout.{Layout}
 
 -- P1: "`3A FF 26 ED 01 00 00 00 1C 00 0C 00 00 10 00 00` and twelve zero bytes"
 abbrev pub emptyImage : List ℕ
@@ -74,13 +74,18 @@ section position size = record { present = true; position = position; size = siz
 abbrev pub none : Section
 none = record { present = false; position = 0; size = 0 }
 
--- an accepted boot image: its version and sections
-abbrev pub found : ℕ → List Section → Saying
-found version sections = record { number = 0; place = 0; version = version; sections = sections }
-
--- a refused boot image: the number
-abbrev pub refused : ℕ → Saying
-refused n = record { number = n; place = 0; version = 0; sections = [] }
+-- what is found in an accepted boot image: its version, and kernel, ramdisk, second, recovery, dtb and signature
+abbrev pub layout : ℕ → Section → Section → Section → Section → Section → Section → Layout
+layout version kernel ramdisk second recovery dtb signature =
+    record {
+      version = version;
+      kernel = kernel;
+      ramdisk = ramdisk;
+      second = second;
+      recovery = recovery;
+      dtb = dtb;
+      signature = signature;
+    }
 
 -- a slot in use: unbootable, successful, tries
 abbrev pub slot : Bool → Bool → ℕ → Slot

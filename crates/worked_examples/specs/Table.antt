@@ -1,18 +1,19 @@
 -- The worked examples of document 01, a row each: a call, and what must come back.
 -- Assumes nothing.
+use mathlib.Core.Path.{_≡_}
 use mathlib.Core.Bool.{true, false}
-use mathlib.Core.List.{List, [], _∷_, _++_}
+use mathlib.Core.List.{List, [], _∷_, _++_, map}
 use lib.ListN.{replicate}
-use Rattle.slots.specs.Answers as slots
-use Rattle.sparse.specs.Answers.{counts, refusedWith}
-use Rattle.sparse_write.specs.Write as write
-use Rattle.listing.specs.Words.{ascii}
-use Rattle.worked_examples.specs.Calls.{Row, stores, writes, locates, starts, lists, stored, written, located, started, listed}
-use Rattle.worked_examples.specs.Images.{emptyImage, twoChunks, p2, upFrom, flat, flatImage, boot3, boot2, section, none, found, refused, slot, two}
+use Rattle.rules.specs.Answer.{accepted, refused}
+use Rattle.slot_rules.specs.Answers as slots
+use Rattle.sparse_rules.specs.Answers.{counts}
+use Rattle.text.specs.Words.{ascii}
+use Rattle.worked_examples.specs.Calls.{Row, perform, stores, writes, locates, starts, lists, stored, written, located, started, listed}
+use Rattle.worked_examples.specs.Images.{emptyImage, twoChunks, p2, upFrom, flat, flatImage, boot3, boot2, section, none, layout, slot, two}
 
 -- P1: "writing 0 bytes at block size 4,096"
 abbrev pub row1 : Row
-row1 = record { call = writes [] 4096 (replicate 28 7); result = written (write.wrote 28) emptyImage }
+row1 = record { call = writes [] 4096 (replicate 28 7); result = written (accepted 28) emptyImage }
 
 -- P2: "On 12 bytes it stores the first 4 and keeps 8"
 abbrev pub row2 : Row
@@ -20,19 +21,19 @@ row2 = record { call = stores p2 (upFrom 1 12); result = stored (counts 1 2) (re
 
 -- P3: "P2 on 11 bytes: 6"
 abbrev pub row3 : Row
-row3 = record { call = stores p2 (upFrom 1 11); result = stored (refusedWith 6 0) (upFrom 1 11) }
+row3 = record { call = stores p2 (upFrom 1 11); result = stored (refused 6 0) (upFrom 1 11) }
 
 -- P4: "P2 with total 4, on 16 bytes: 9 at 56"
 abbrev pub row4 : Row
-row4 = record { call = stores (twoChunks 4 0xCAC3 0xFFFFFFFF) (upFrom 1 16); result = stored (refusedWith 9 56) (upFrom 1 16) }
+row4 = record { call = stores (twoChunks 4 0xCAC3 0xFFFFFFFF) (upFrom 1 16); result = stored (refused 9 56) (upFrom 1 16) }
 
 -- P5: "with total 2: 9 at 44"
 abbrev pub row5 : Row
-row5 = record { call = stores (twoChunks 2 0xCAC3 0xFFFFFFFF) (upFrom 1 16); result = stored (refusedWith 9 44) (upFrom 1 16) }
+row5 = record { call = stores (twoChunks 2 0xCAC3 0xFFFFFFFF) (upFrom 1 16); result = stored (refused 9 44) (upFrom 1 16) }
 
 -- P6: "P2 and one byte more: 10 at 56"
 abbrev pub row6 : Row
-row6 = record { call = stores (p2 ++ (0 ∷ [])) (upFrom 1 12); result = stored (refusedWith 10 56) (upFrom 1 12) }
+row6 = record { call = stores (p2 ++ (0 ∷ [])) (upFrom 1 12); result = stored (refused 10 56) (upFrom 1 12) }
 
 -- P7: "P2 with its second type 0xCAC5: as P2"
 abbrev pub row7 : Row
@@ -40,34 +41,34 @@ row7 = record { call = stores (twoChunks 3 0xCAC5 0xFFFFFFFF) (upFrom 1 12); res
 
 -- P8: "P2 with checksum 0: 11"
 abbrev pub row8 : Row
-row8 = record { call = stores (twoChunks 3 0xCAC3 0) (upFrom 1 12); result = stored (refusedWith 11 24) (upFrom 1 12) }
+row8 = record { call = stores (twoChunks 3 0xCAC3 0) (upFrom 1 12); result = stored (refused 11 24) (upFrom 1 12) }
 
 -- P9: "block size 8: one raw chunk, one fill chunk, checksum 0xFFFFFFFF, 64 bytes"
 abbrev pub row9 : Row
-row9 = record { call = writes flat 8 (replicate 65 7); result = written (write.wrote 64) (flatImage ++ (7 ∷ [])) }
+row9 = record { call = writes flat 8 (replicate 65 7); result = written (accepted 64) (flatImage ++ (7 ∷ [])) }
 
 -- P9: "A 63-byte output: 12"
 abbrev pub row9Short : Row
-row9Short = record { call = writes flat 8 (replicate 63 7); result = written (write.refusedWith 12 0) (replicate 63 7) }
+row9Short = record { call = writes flat 8 (replicate 63 7); result = written (refused 12 0) (replicate 63 7) }
 
 -- P10: "at 4,096 and 12,288. 12,289 bytes are enough"
 abbrev pub row10 : Row
 row10 =
     record {
       call = locates (boot3 12289);
-      result = located (found 3 (section 4096 4097 ∷ section 12288 1 ∷ none ∷ none ∷ none ∷ none ∷ []));
+      result = located (accepted (layout 3 (section 4096 4097) (section 12288 1) none none none none));
     }
 
 -- P10: "12,288: 26"
 abbrev pub row10Short : Row
-row10Short = record { call = locates (boot3 12288); result = located (refused 26) }
+row10Short = record { call = locates (boot3 12288); result = located (refused 26 0) }
 
 -- P11: "2,048, 4,096, dtb at 6,144"
 abbrev pub row11 : Row
 row11 =
     record {
       call = locates boot2;
-      result = located (found 2 (section 2048 2048 ∷ section 4096 1 ∷ section 6144 0 ∷ section 6144 0 ∷ section 6144 1 ∷ none ∷ []));
+      result = located (accepted (layout 2 (section 2048 2048) (section 4096 1) (section 6144 0) (section 6144 0) (section 6144 1) none));
     }
 
 -- P12: "a current, tries 0; b successful: b starts, a unbootable"
@@ -106,3 +107,7 @@ rowListed =
 abbrev pub table : List Row
 table =
     row1 ∷ row2 ∷ row3 ∷ row4 ∷ row5 ∷ row6 ∷ row7 ∷ row8 ∷ row9 ∷ row9Short ∷ row10 ∷ row10Short ∷ row11 ∷ row12 ∷ row13 ∷ row14 ∷ rowListed ∷ []
+
+-- every call of the table gives back what its row says
+abbrev pub Worked : Type 0
+Worked = map (λ (r : Row). perform (r .call)) table ≡ map (λ (r : Row). r .result) table

@@ -4,7 +4,7 @@ use mathlib.Core.Path.{ap, _∙_}
 use Prim.Native.Nat.{ℕ}
 use lib.Bits.{bitXor}
 use borrow.Author.Needs.{needs}
-use Rattle.crc32.specs.Crc.{crcFrom, crc32, ones}
+use Rattle.crc32_rules.specs.Crc.{crcFrom, crc32, allOnes}
 use Rattle.crc32.proofs.checksum.Statement.{statement}
 use Rattle.crc32.proofs.checksum.Tie as tie
 
@@ -22,7 +22,7 @@ unfolding crc32
 returns c =
     let src = c .before .before .before .before .args .src .now in
     c .finish .ensures
-    ∙ ap (λ (x : ℕ). bitXor x ones)
+    ∙ ap (λ (x : ℕ). bitXor x allOnes)
     (c .before .update .ensures ∙ ap (λ (x : ℕ). crcFrom x src) (c .before .before .start .ensures))
 
 pub checksum-spec : {M : Type 1} → statement M

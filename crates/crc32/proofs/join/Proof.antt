@@ -5,8 +5,8 @@ use Prim.Native.Nat.{ℕ}
 use lib.Bits.{bitXor}
 use lib.ListN.{replicate}
 use borrow.Author.Needs.{needs}
-use Rattle.crc32.specs.Crc.{crcFrom}
-use Rattle.crc32.proofs.Pieces.{crc-join}
+use Rattle.crc32_rules.specs.Crc.{crcFrom}
+use Rattle.crc32_rules.proofs.Pieces.{crc-join}
 use Rattle.crc32.proofs.join.Statement.{statement}
 use Rattle.crc32.proofs.join.Tie as tie
 

@@ -7,7 +7,7 @@ use native.Mathlib.Omega.{arith}
 use lib.ListN.{length}
 use lib.Seq.{length-take-le}
 use borrow.Author.Needs.{needs}
-use Rattle.crc32.proofs.Pieces.{part, part-length, lane-start, lane-part, lane-done}
+use Rattle.crc32_rules.proofs.Pieces.{part, part-length, lane-start, lane-part, lane-done}
 use Rattle.crc32.proofs.quarters.Statement.{statement}
 use Rattle.crc32.proofs.quarters.Tie as tie
 

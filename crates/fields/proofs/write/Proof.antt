@@ -1,10 +1,11 @@
 -- `fields::write` meets its contract. The loop's invariant: what is left of the value, stored from byte i on, gives the whole field.
 -- The measure is the bytes left. Assumes nothing.
 use mathlib.Core.Path.{sym, _∙_}
-use Prim.Native.Nat.{_-_}
+use Prim.Native.Nat.{_+_, _-_, _≤_}
 use native.Mathlib.Omega.{arith}
 use borrow.Author.Needs.{needs}
-use Rattle.fields.proofs.Laws.{patched-whole, patched-none}
+use lib.ListN.{length}
+use Rattle.fields_rules.proofs.Laws.{length-bytes, placed-whole, placed-none, fit, past}
 use Rattle.fields.proofs.Loops.{Stored, stored-none, stored-more, stored-all}
 use Rattle.fields.proofs.write.Statement.{statement}
 use Rattle.fields.proofs.write.Tie as tie
@@ -15,14 +16,17 @@ Inv-loop out₀ at width value left₀ i₀ out left i = Stored out₀ at width 
 abbrev μ-loop : tie.MeasureT-loop
 μ-loop out₀ at width value left₀ i₀ out left i = width - i
 
+-- the field fits
+room : (c : tie.Else1 Inv-loop μ-loop) → c .before .before .before .args .at + c .before .before .before .args .width ≤ length (c .before .before .before .args .out .now)
+room c = fit _ _ (c .before .within .ensures) (c .if1 .left)
+
+within-requires : tie.Need-within-requires Inv-loop μ-loop
+within-requires c κs = search needs
+
 returns : tie.Need-returns Inv-loop μ-loop
-returns c = sym (patched-none _ _ _ _ (omega arith))
-
-sub-if2 : tie.Need-sub-if2 Inv-loop μ-loop
-sub-if2 c = search needs
-
-returns-2 : tie.Need-returns-2 Inv-loop μ-loop
-returns-2 c = sym (patched-none _ _ _ _ (omega arith))
+returns c =
+    let a = c .before .before .before .args in
+    sym (placed-none _ _ _ (rw (length-bytes (a .width) (a .value)) (past _ _ (c .before .within .ensures) (c .if1 .taken))))
 
 loop-holds : tie.Need-loop-holds Inv-loop μ-loop
 loop-holds c = stored-none _ _ _ _
@@ -31,10 +35,10 @@ cast-out : tie.Need-cast-out Inv-loop μ-loop
 cast-out c = search needs
 
 add-out : tie.Need-add-out Inv-loop μ-loop
-add-out c = search needs
+add-out c = omega (arith, room (c .before .before))
 
 slice-write-out : tie.Need-slice-write-out Inv-loop μ-loop
-slice-write-out c = search needs
+slice-write-out c = omega (arith, room (c .before .before))
 
 add-i : tie.Need-add-i Inv-loop μ-loop
 add-i c = search needs
@@ -48,9 +52,11 @@ loop-again c = stored-more _ _ _ _ _ _ _ (c .before .loop .inv) (c .loop-test .t
 same-length : tie.Need-same-length Inv-loop μ-loop
 same-length c = c .before .loop .inv .same-length
 
-returns-3 : tie.Need-returns-3 Inv-loop μ-loop
-returns-3 c =
-    stored-all _ _ _ _ _ _ _ (c .before .loop .inv) (c .loop-test .left) ∙ sym (patched-whole _ _ _ _ (omega arith))
+returns-2 : tie.Need-returns-2 Inv-loop μ-loop
+returns-2 c =
+    let a = c .before .before .before .before .before .args in
+    stored-all _ _ _ _ _ _ _ (c .before .loop .inv) (c .loop-test .left)
+    ∙ sym (placed-whole _ _ _ (rw (length-bytes (a .width) (a .value)) (room (c .before .before))))
 
 pub write-spec : {M : Type 1} → statement M
 write-spec =
@@ -58,9 +64,8 @@ write-spec =
     (tie.spec
     Inv-loop
     μ-loop
+    within-requires
     returns
-    sub-if2
-    returns-2
     loop-holds
     cast-out
     add-out
@@ -69,4 +74,4 @@ write-spec =
     loop-less
     loop-again
     same-length
-    returns-3)
+    returns-2)

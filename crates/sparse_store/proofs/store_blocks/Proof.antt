@@ -1,11 +1,12 @@
 -- `sparse_store::store_blocks` meets its contract. The loop's invariant: what is left to store, laid over what the partition
 -- holds, gives the whole. The measure is what is left of the image. Assumes nothing.
-use mathlib.Core.Path.{refl, sym, ap, _∙_}
+use mathlib.Core.Path.{refl}
 use Prim.Native.Nat.{_-_, _*_, _^_, _<_}
 use native.Mathlib.Omega.{arith}
 use borrow.Author.Needs.{needs}
 use lib.ListN.{length}
-use Rattle.sparse.specs.Answers.{readingOf}
+use Rattle.sparse_rules.specs.Answers.{readingOf}
+use Rattle.sparse_store.proofs.Entries.{says-same}
 use Rattle.sparse_store.proofs.Turn.{Turn, turn-start, turn-done, not-refused, Here, passes, stretch, took-left, took-bytes, lent, turned}
 use Rattle.sparse_store.proofs.store_blocks.Statement.{statement}
 use Rattle.sparse_store.proofs.store_blocks.Tie as tie
@@ -33,7 +34,7 @@ here c =
     record {
       turn = c .before .before .before .before .loop .inv;
       some-left = c .before .before .before .loop-test .taken;
-      read = sym (c .before .before .read-chunk .ensures) ∙ ap readingOf (c .r .given .1);
+      read = says-same readingOf (c .r .given .1) (c .before .before .read-chunk .ensures);
     }
 
 read-header-requires : tie.Need-read-header-requires Inv-loop μ-loop
@@ -58,22 +59,19 @@ enum-known-r c = search needs
 enum-told : tie.Need-enum-told Inv-loop μ-loop
 enum-told c = search needs
 
-refused-requires : tie.Need-refused-requires Inv-loop μ-loop
-refused-requires c κs = search needs
+refusal-of-requires : tie.Need-refusal-of-requires Inv-loop μ-loop
+refusal-of-requires c κs = search needs
 
 same-length : tie.Need-same-length Inv-loop μ-loop
 same-length c = search needs
 
 returns : tie.Need-returns Inv-loop μ-loop
 returns c =
+    let read = c .before .before .before in
     let g = c .before .enum-told .given in
     absurd
-    (not-refused
-    (c .before .before .before .before .before .loop .inv)
-    (c .before .before .before .before .loop-test .taken)
-    (g .0 .0 .number)
-    (g .0 .0 .place)
-    (sym (c .before .before .before .read-chunk .ensures) ∙ ap readingOf (g .1)))
+    (not-refused (read .before .before .loop .inv) (read .before .loop-test .taken) (g .0 .0 .number) (g .0 .0 .place)
+    (says-same readingOf (g .1) (read .read-chunk .ensures)))
 
 taken-requires : tie.Need-taken-requires Inv-loop μ-loop
 taken-requires c κs = search needs
@@ -84,16 +82,17 @@ cast-from c = search needs
 mul-from : tie.Need-mul-from Inv-loop μ-loop
 mul-from c =
     let r = c .before .before .before in
-    let h = r .before .before .before .before .before .before .before .read-header .result in
-    let fits : r .before .before .before .before .loop .cursor .first * h .block < 2 ^ 64 = omega (arith, r .before .before .before .before .before .before .before .before .before .before .good, stretch (here r)) in
+    let read = r .before .before .before .before .before .before .before in
+    let fits : r .before .before .before .before .loop .cursor .first * read .read-header .result .block < 2 ^ 64 =
+    omega (arith, read .before .before .before .good, stretch (here r)) in
     record { fits = fits }
 
 mul-bytes : tie.Need-mul-bytes Inv-loop μ-loop
 mul-bytes c =
     let r = c .before .before .before in
-    let h = r .before .before .before .before .before .before .before .read-header .result in
-    let fits : c .before .taken .result * h .block < 2 ^ 64 =
-    omega (arith, r .before .before .before .before .before .before .before .before .before .before .good, stretch (here r), took-bytes (here r) (c .before .taken .ensures)) in
+    let read = r .before .before .before .before .before .before .before in
+    let fits : c .before .taken .result * read .read-header .result .block < 2 ^ 64 =
+    omega (arith, read .before .before .before .good, stretch (here r), took-bytes (here r) (c .before .taken .ensures)) in
     record { fits = fits }
 
 sub-left : tie.Need-sub-left Inv-loop μ-loop
@@ -106,7 +105,9 @@ loop-less : tie.Need-loop-less Inv-loop μ-loop
 loop-less c = passes (here (c .before .before .before .before .before .before .before))
 
 loop-again : tie.Need-loop-again Inv-loop μ-loop
-loop-again c = turned (here (c .before .before .before .before .before .before .before)) (c .before .before .before .before .before .taken .ensures) (c .before .before .store-chunk .ensures)
+loop-again c =
+    let take = c .before .before .before .before .before in
+    turned (here (take .before .before)) (take .taken .ensures) (c .before .before .store-chunk .ensures)
 
 same-length-2 : tie.Need-same-length-2 Inv-loop μ-loop
 same-length-2 c = c .before .loop .inv .size
@@ -127,7 +128,7 @@ store-blocks-spec =
     read-chunk-requires
     enum-known-r
     enum-told
-    refused-requires
+    refusal-of-requires
     same-length
     returns
     taken-requires

@@ -4,8 +4,8 @@ use mathlib.Core.Path.{ap}
 use Prim.Native.Nat.{_+_, _-_}
 use native.Mathlib.Omega.{arith}
 use borrow.Author.Needs.{needs}
-use Rattle.sparse.specs.Cells.{writes}
-use Rattle.sparse_store.proofs.Lending.{lent-raw, lent-fill, stored-raw, stored-fill, stored-none}
+use Rattle.sparse_rules.specs.Cells.{writes}
+use Rattle.sparse_store_rules.proofs.Lending.{stored-raw, stored-fill, stored-none}
 use Rattle.sparse_store.proofs.store_chunk.Statement.{statement}
 use Rattle.sparse_store.proofs.store_chunk.Tie as tie
 
@@ -25,10 +25,7 @@ part-put-raw-end : tie.Need-part-put-raw-end
 part-put-raw-end c = search needs
 
 put-raw-requires : tie.Need-put-raw-requires
-put-raw-requires c κs =
-    let start = c .before .before .before .before .before in
-    let a = start .args in
-    lent-raw (a .image .now) (a .partition .now) (a .chunk) (a .from) (a .bytes) (start .pre) (c .before .enum-told .given .1)
+put-raw-requires c κs = search needs
 
 enum-told-2 : tie.Need-enum-told-2
 enum-told-2 c = search needs
@@ -43,10 +40,7 @@ part-put-fill-end : tie.Need-part-put-fill-end
 part-put-fill-end c = search needs
 
 put-fill-requires : tie.Need-put-fill-requires
-put-fill-requires c κs =
-    let start = c .before .before .before .before .before in
-    let a = start .args in
-    lent-fill (a .image .now) (a .partition .now) (a .chunk) (a .from) (a .bytes) (start .pre) (c .before .enum-told2 .given .1)
+put-fill-requires c κs = search needs
 
 enum-told-3 : tie.Need-enum-told-3
 enum-told-3 c = search needs
@@ -62,7 +56,7 @@ returns c =
     let start = c .before .before .before .before .before .before .before .before in
     let a = start .args in
     stored-raw (a .image .now) (a .partition .now) (a .chunk .kind) (a .chunk .body) (a .from) (a .bytes) _ (a .from + a .bytes - a .from)
-    (start .pre .inside) (omega arith) (c .before .before .before .before .enum-told .given .1) (c .before .before .put-raw .ensures)
+    (start .pre) (omega arith) (c .before .before .before .before .enum-told .given .1) (c .before .before .put-raw .ensures)
 
 same-length-2 : tie.Need-same-length-2
 same-length-2 c = search needs
@@ -72,7 +66,7 @@ returns-2 c =
     let start = c .before .before .before .before .before .before .before .before in
     let a = start .args in
     stored-fill (a .image .now) (a .partition .now) (a .chunk .kind) (a .chunk .body) (a .from) (a .bytes) _ (a .from + a .bytes - a .from)
-    (start .pre .inside) (omega arith) (c .before .before .before .before .enum-told2 .given .1) (c .before .before .put-fill .ensures)
+    (start .pre) (omega arith) (c .before .before .before .before .enum-told2 .given .1) (c .before .before .put-fill .ensures)
 
 returns-3 : tie.Need-returns-3
 returns-3 c =

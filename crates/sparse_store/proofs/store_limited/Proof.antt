@@ -1,13 +1,14 @@
 -- `sparse_store::store_limited` meets its contract: a refusal stores nothing, and of an accepted image the lesser of the
 -- limit and its blocks is stored and answered. Assumes nothing.
-use mathlib.Core.Path.{sym, ap, _∙_}
+use mathlib.Core.Path.{ap, _∙_}
 use Prim.Native.Nat.{ℕ}
 use native.Mathlib.Omega.{arith}
 use borrow.Author.Needs.{needs}
-use Rattle.sparse.specs.Answers.{answerOf}
-use Rattle.sparse_store.specs.Store.{storeUpTo}
-use Rattle.sparse_store.specs.Answers.{stored, cutAnswerOf}
-use Rattle.sparse_store.proofs.Entries.{storable, stored-least, answered-least, refused-limited, answered-refused}
+use Rattle.rules.specs.Answer.{accepted}
+use Rattle.sparse_rules.specs.Answers.{answerOf}
+use Rattle.sparse_store_rules.specs.Store.{storeUpTo}
+use Rattle.sparse_store_rules.specs.Answers.{cutAnswerOf}
+use Rattle.sparse_store.proofs.Entries.{says-same, storable, stored-least, answered-least, refused-limited, answered-refused}
 use Rattle.sparse_store.proofs.store_limited.Statement.{statement}
 use Rattle.sparse_store.proofs.store_limited.Tie as tie
 
@@ -25,9 +26,10 @@ least-requires c κs = search needs
 
 store-blocks-requires : tie.Need-store-blocks-requires
 store-blocks-requires c κs =
-    let a = c .before .before .before .before .before .before .before .before .args in
-    let g = c .before .before .before .verdict .given in
-    storable (a .image .now) (a .partition .now) (g .0 .0) (g .0 .1 .0) (sym (ap answerOf (g .1)) ∙ c .before .before .before .before .before .judge .ensures) (c .before .least .result)
+    let v = c .before .before .before in
+    let a = v .before .before .before .before .before .args in
+    let g = v .verdict .given in
+    storable (a .image .now) (a .partition .now) (g .0 .0) (g .0 .1 .0) (says-same answerOf (g .1) (v .before .before .judge .ensures)) (c .before .least .result)
     (omega (arith, c .before .least .ensures))
 
 enum-known-verdict-2 : tie.Need-enum-known-verdict-2
@@ -38,12 +40,15 @@ same-length c = search needs
 
 returns : tie.Need-returns
 returns c =
-    let a = c .before .before .before .before .before .before .before .before .before .before .before .args in
-    let g = c .before .before .before .before .before .before .verdict .given in
-    let e = sym (ap answerOf (g .1)) ∙ c .before .before .before .before .before .before .before .before .judge .ensures in
-    let count = c .before .before .before .before .least in (
-      ap cutAnswerOf (c .before .before .store-blocks .ensures .0) ∙ ap stored (count .ensures) ∙ answered-least (a .image .now) (a .partition .now) (g .0 .0) (g .0 .1 .0) e (a .limit),
-      c .before .before .store-blocks .ensures .1 ∙ ap (λ (n : ℕ). storeUpTo n (a .image .now) (a .partition .now)) (count .ensures)
+    let blocks = c .before .before .store-blocks .ensures in
+    let l = c .before .before .before .before in
+    let count = l .least .ensures in
+    let v = l .before .before in
+    let a = v .before .before .before .before .before .args in
+    let g = v .verdict .given in
+    let e = says-same answerOf (g .1) (v .before .before .judge .ensures) in (
+      ap cutAnswerOf (blocks .0) ∙ ap accepted count ∙ answered-least (a .image .now) (a .partition .now) (g .0 .0) (g .0 .1 .0) e (a .limit),
+      blocks .1 ∙ ap (λ (n : ℕ). storeUpTo n (a .image .now) (a .partition .now)) count
           ∙ stored-least (a .image .now) (a .partition .now) (g .0 .0) (g .0 .1 .0) e (a .limit),
     )
 
@@ -51,7 +56,7 @@ returns-2 : tie.Need-returns-2
 returns-2 c =
     let a = c .before .before .before .before .before .before .args in
     let g = c .before .verdict2 .given in
-    let e = sym (ap answerOf (g .1)) ∙ c .before .before .before .judge .ensures in (
+    let e = says-same answerOf (g .1) (c .before .before .before .judge .ensures) in (
       answered-refused (a .image .now) (a .partition .now) (g .0 .0 .number) (g .0 .0 .place) e (a .limit),
       refused-limited (a .image .now) (a .partition .now) (g .0 .0 .number) (g .0 .0 .place) e (a .limit),
     )

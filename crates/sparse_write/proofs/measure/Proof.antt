@@ -1,9 +1,9 @@
 -- `sparse_write::measure` meets its contract. The loop's invariant: what is counted and what is left make up the image.
 -- Assumes nothing.
-use Prim.Native.Nat.{_+_, _*_, _≤_}
+use Prim.Native.Nat.{_+_, _≤_}
 use native.Mathlib.Omega.{arith}
 use lib.ListN.{length}
-use Rattle.sparse_write.proofs.Passes.{run-split, ahead-stored, Measured, measure-start, measure-step, measure-done}
+use Rattle.sparse_write.proofs.Passes.{ahead-start, ahead-inside, ahead-stored, Measured, measure-start, measure-step, measure-done}
 use Rattle.sparse_write.proofs.measure.Statement.{statement}
 use Rattle.sparse_write.proofs.measure.Tie as tie
 
@@ -14,8 +14,8 @@ abbrev μ-loop : tie.MeasureT-loop
 μ-loop flat block n bytes₀ count₀ at₀ left₀ kind₀ bytes count at left kind = left
 
 -- the run lies within the flat data
-inside : (c : tie.After-run Inv-loop μ-loop) → c .before .before .loop .at + c .run .result .blocks * c .before .before .before .before .before .args .block ≤ length (c .before .before .before .before .before .args .flat .now)
-inside c = omega (arith, c .before .before .loop .inv .ahead .room, run-split (c .run .ensures))
+inside : (c : tie.After-first-run Inv-loop μ-loop) → c .before .before .loop .at + c .first-run .result .len ≤ length (c .before .before .before .before .before .args .flat .now)
+inside c = ahead-inside (c .before .before .loop .inv .ahead) (c .first-run .ensures)
 
 first-kind-requires : tie.Need-first-kind-requires Inv-loop μ-loop
 first-kind-requires c κs = (c .before .pre .0, c .before .pre .1, c .before .pre .2)
@@ -23,19 +23,16 @@ first-kind-requires c κs = (c .before .pre .0, c .before .pre .1, c .before .pr
 loop-holds : tie.Need-loop-holds Inv-loop μ-loop
 loop-holds c =
     let start = c .before .before in
-    measure-start (start .args .flat .now) (start .args .block) (start .args .n) (c .first-kind .result) (start .pre .0) (c .first-kind .ensures)
+    measure-start _ _ _ _ (ahead-start (start .args .flat .now) (start .args .block) (start .args .n) (c .first-kind .result) (start .pre .0) (c .first-kind .ensures))
 
-run-requires : tie.Need-run-requires Inv-loop μ-loop
-run-requires c κs =
+first-run-requires : tie.Need-first-run-requires Inv-loop μ-loop
+first-run-requires c κs =
     let l = c .before .loop in
     let start = c .before .before .before .before in
     (l .inv .ahead .room, start .pre .1, start .pre .2, c .loop-test .taken, l .inv .ahead .known (c .loop-test .taken))
 
-mul-len : tie.Need-mul-len Inv-loop μ-loop
-mul-len c = omega (arith, inside c)
-
 chunk-size-requires : tie.Need-chunk-size-requires Inv-loop μ-loop
-chunk-size-requires c κs = (ahead-stored (c .before .before .loop .inv .ahead) (c .before .loop-test .taken), omega (arith, inside c))
+chunk-size-requires c κs = (ahead-stored (c .before .before .loop .inv .ahead) (c .first-run .ensures) (c .before .loop-test .taken), omega (arith, inside c))
 
 add-bytes : tie.Need-add-bytes Inv-loop μ-loop
 add-bytes c = omega (arith, inside (c .before), c .before .before .before .loop .inv .small, c .chunk-size .ensures .1)
@@ -47,13 +44,13 @@ add-at : tie.Need-add-at Inv-loop μ-loop
 add-at c = omega (arith, inside (c .before))
 
 sub-left : tie.Need-sub-left Inv-loop μ-loop
-sub-left c = omega (arith, c .before .run .ensures .fits)
+sub-left c = omega (arith, c .before .first-run .ensures .fits)
 
 loop-less : tie.Need-loop-less Inv-loop μ-loop
-loop-less c = omega (arith, c .before .run .ensures .some, c .before .run .ensures .fits)
+loop-less c = omega (arith, c .before .first-run .ensures .some, c .before .first-run .ensures .fits)
 
 loop-again : tie.Need-loop-again Inv-loop μ-loop
-loop-again c = measure-step (c .chunk-size .result) (c .before .before .before .before .before .before .pre .1) (c .before .before .before .loop .inv) (c .before .run .ensures) (c .chunk-size .ensures .0)
+loop-again c = measure-step (c .chunk-size .result) (c .before .before .before .before .before .before .pre .1) (c .before .before .before .loop .inv) (c .before .first-run .ensures) (c .chunk-size .ensures .0)
 
 returns : tie.Need-returns Inv-loop μ-loop
 returns c = measure-done (omega arith) (c .before .loop .inv)
@@ -66,8 +63,7 @@ measure-spec =
     μ-loop
     first-kind-requires
     loop-holds
-    run-requires
-    mul-len
+    first-run-requires
     chunk-size-requires
     add-bytes
     add-count

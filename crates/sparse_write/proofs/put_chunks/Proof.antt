@@ -1,12 +1,11 @@
 -- `sparse_write::put_chunks` meets its contract. The loop's invariant: what is put and what is left make up the image, and its checksum.
 -- Assumes nothing.
-use mathlib.Core.Path.{ap, _∙_}
-use Prim.Native.Nat.{_+_, _*_, _≤_}
+use Prim.Native.Nat.{_+_, _≤_}
 use native.Mathlib.Omega.{arith}
 use borrow.Author.Needs.{needs}
 use lib.ListN.{length}
-use Rattle.sparse.proofs.Cells.{length-tab}
-use Rattle.sparse_write.proofs.Passes.{ahead-stored, blocks-small, Put, put-start, put-inside, put-part, put-fits, put-holds, put-step, put-done}
+use Rattle.fields_rules.specs.Number.{Bytes}
+use Rattle.sparse_write.proofs.Passes.{ahead-start, ahead-inside, ahead-few, ahead-stored, Put, put-start, put-long, put-fits, put-small, put-holds, put-step, put-done}
 use Rattle.sparse_write.proofs.put_chunks.Statement.{statement}
 use Rattle.sparse_write.proofs.put_chunks.Tie as tie
 
@@ -17,8 +16,8 @@ abbrev μ-loop : tie.MeasureT-loop
 μ-loop out₀ flat block n state₀ pos₀ at₀ left₀ kind₀ out state pos at left kind = left
 
 -- the run lies within the flat data
-inside : (c : tie.After-run Inv-loop μ-loop) → c .before .before .loop .at + c .run .result .blocks * c .before .before .before .before .before .before .before .args .block ≤ length (c .before .before .before .before .before .before .before .args .flat .now)
-inside c = put-inside (c .before .before .loop .inv) (c .run .ensures)
+inside : (c : tie.After-first-run Inv-loop μ-loop) → c .before .before .loop .at + c .first-run .result .len ≤ length (c .before .before .before .before .before .before .before .args .flat .now)
+inside c = ahead-inside (c .before .before .loop .inv .ahead) (c .first-run .ensures)
 
 start-requires : tie.Need-start-requires Inv-loop μ-loop
 start-requires c κs = search needs
@@ -31,17 +30,15 @@ first-kind-requires c κs =
 loop-holds : tie.Need-loop-holds Inv-loop μ-loop
 loop-holds c =
     let start = c .before .before .before .before in
-    put-start (start .args .flat .now) (start .args .block) (start .args .n) (start .args .out .now) (c .before .start .result) (c .first-kind .result)
-    (start .pre .1) (c .first-kind .ensures) (start .pre .0) (c .before .start .ensures)
+    put-start _ _ _ (start .args .out .now) (c .before .start .result) _
+    (ahead-start (start .args .flat .now) (start .args .block) (start .args .n) (c .first-kind .result) (omega (arith, start .pre .1)) (c .first-kind .ensures))
+    (start .pre .1) (start .pre .0) (c .before .start .ensures)
 
-run-requires : tie.Need-run-requires Inv-loop μ-loop
-run-requires c κs =
+first-run-requires : tie.Need-first-run-requires Inv-loop μ-loop
+first-run-requires c κs =
     let l = c .before .loop in
     let start = c .before .before .before .before .before .before in
     (l .inv .ahead .room, start .pre .2, start .pre .3, c .loop-test .taken, l .inv .ahead .known (c .loop-test .taken))
-
-mul-len : tie.Need-mul-len Inv-loop μ-loop
-mul-len c = omega (arith, inside c)
 
 add-end : tie.Need-add-end Inv-loop μ-loop
 add-end c = omega (arith, inside c)
@@ -58,39 +55,45 @@ part-put-chunk-end c = omega (arith, inside (c .before))
 cast-put-chunk : tie.Need-cast-put-chunk Inv-loop μ-loop
 cast-put-chunk c =
     let start = c .before .before .before .before .before .before .before .before .before in
-    omega (arith, inside (c .before .before), blocks-small (c .before .before .run .result .blocks) (start .args .block) (start .pre .2))
+    omega (arith, inside (c .before .before), ahead-few (c .before .before .before .before .loop .inv .ahead) (c .before .before .first-run .ensures) (start .pre .2))
 
 put-chunk-requires : tie.Need-put-chunk-requires Inv-loop μ-loop
 put-chunk-requires c κs =
     let l = c .before .before .before .before .loop in
     let start = c .before .before .before .before .before .before .before .before .before in
-    let q = c .before .before .run .ensures in
-    let long = ap length (put-part (l .inv) q) ∙ length-tab _ 0 _ in
-    let holds = put-holds (l .inv) q (λ i. omega (arith, c .before .before .before .before .before .before .before .shared-slice-known .given i)) (start .pre .3) (c .before .before .before .loop-test .taken) in
-    (rw long (put-fits (l .inv) q), omega (arith, inside (c .before .before), long), holds .0, holds .1)
+    let q = c .before .before .first-run .ensures in
+    let small : Bytes (start .args .flat .now) = λ i. omega (arith, c .before .before .before .before .before .before .before .shared-slice-known .given i) in
+    let some = c .before .before .before .loop-test .taken in
+    let long = put-long (l .inv) q in (
+      rw long (put-fits (l .inv) q),
+      omega (arith, inside (c .before .before), long),
+      ahead-stored (l .inv .ahead) q some,
+      put-small (l .inv) q small some,
+      put-holds (l .inv) q small (start .pre .3) some,
+    )
 
 chunk-size-requires : tie.Need-chunk-size-requires Inv-loop μ-loop
 chunk-size-requires c κs =
     let ran = c .before .before .before .before .before in
-    (ahead-stored (ran .before .before .loop .inv .ahead) (ran .before .loop-test .taken), omega (arith, inside ran))
+    (ahead-stored (ran .before .before .loop .inv .ahead) (ran .first-run .ensures) (ran .before .loop-test .taken), omega (arith, inside ran))
 
 add-pos : tie.Need-add-pos Inv-loop μ-loop
 add-pos c =
     let ran = c .before .before .before .before .before .before in
-    omega (arith, c .chunk-size .ensures .0, put-fits (ran .before .before .loop .inv) (ran .run .ensures))
+    omega (arith, c .chunk-size .ensures .0, put-fits (ran .before .before .loop .inv) (ran .first-run .ensures))
 
 sub-left : tie.Need-sub-left Inv-loop μ-loop
-sub-left c = omega (arith, c .before .before .before .before .before .before .run .ensures .fits)
+sub-left c = omega (arith, c .before .before .before .before .before .before .first-run .ensures .fits)
 
 loop-less : tie.Need-loop-less Inv-loop μ-loop
 loop-less c =
-    let q = c .before .before .before .before .before .before .run .ensures in
+    let q = c .before .before .before .before .before .before .first-run .ensures in
     omega (arith, q .some, q .fits)
 
 loop-again : tie.Need-loop-again Inv-loop μ-loop
 loop-again c =
     let ran = c .before .before .before .before .before .before in
-    put-step (ran .before .before .loop .inv) (ran .run .ensures) (c .chunk-size .result) _ _ (c .chunk-size .ensures .0)
+    put-step (ran .before .before .loop .inv) (ran .first-run .ensures) (c .chunk-size .result) _ _ (c .chunk-size .ensures .0)
     (c .before .before .before .put-chunk .ensures .0) (c .before .before .before .put-chunk .ensures .1)
 
 same-length : tie.Need-same-length Inv-loop μ-loop
@@ -108,8 +111,7 @@ put-chunks-spec =
     start-requires
     first-kind-requires
     loop-holds
-    run-requires
-    mul-len
+    first-run-requires
     add-end
     sub-put-chunk
     part-put-chunk-start

@@ -6,10 +6,11 @@ use Prim.Native.Nat.{_/_}
 use native.Mathlib.Omega.{arith}
 use borrow.Author.Tests.{not-true, not-false}
 use lib.ListN.{length}
-use Rattle.sparse.specs.Header.{blockSizeRight}
-use Rattle.sparse_write.specs.Write.{lengthWrong}
-use Rattle.sparse_write.proofs.Passes.{blocks-small}
-use Rattle.sparse_write.proofs.FlatImage.{block-good, length-good, refuse-5, refuse-13, too-short, image-put}
+use Rattle.sparse_rules.specs.Header.{blockSizeRight}
+use Rattle.sparse_write_rules.specs.Write.{lengthWrong}
+use Rattle.sparse_write_rules.proofs.Runs.{blocks-small}
+use Rattle.sparse_write_rules.proofs.FlatImage.{block-good, length-good, refuse-5, refuse-13}
+use Rattle.sparse_write.proofs.Written.{too-short, image-put}
 use borrow.Author.Needs.{needs}
 use Rattle.sparse_write.proofs.write.Statement.{statement}
 use Rattle.sparse_write.proofs.write.Tie as tie
@@ -19,8 +20,8 @@ right : (c : tie.Else1) → blockSizeRight (c .before .before .before .before .a
 right c = sym (c .before .block-right .ensures) ∙ not-false (c .before .block-right .result) (c .if1 .left)
 
 -- and test 13
-whole : (c : tie.Else2) → lengthWrong (length (c .before .before .before .before .before .before .args .flat .now)) (c .before .before .before .before .before .before .args .block-size) ≡ false
-whole c = sym (c .before .length-wrong .ensures) ∙ c .if2 .left
+whole : (c : tie.Else2) → lengthWrong (length (c .before .before .before .before .before .args .flat .now)) (c .before .before .before .before .before .args .block-size) ≡ false
+whole c = c .if2 .left
 
 block-right-requires : tie.Need-block-right-requires
 block-right-requires c κs = search needs
@@ -35,26 +36,24 @@ returns c =
     (refuse-5 (a .flat .now) (a .block-size) (a .out .now)
     (sym (c .before .before .block-right .ensures) ∙ not-true (c .before .before .block-right .result) (c .before .if1 .taken)))
 
-length-wrong-requires : tie.Need-length-wrong-requires
-length-wrong-requires c κs = omega (arith, block-good (c .before .before .before .before .args .block-size) (right c) .0)
+rem-if2 : tie.Need-rem-if2
+rem-if2 c = omega (arith, block-good (c .before .before .before .before .args .block-size) (right c) .0)
 
 refused-requires-2 : tie.Need-refused-requires-2
 refused-requires-2 c κs = search needs
 
 returns-2 : tie.Need-returns-2
 returns-2 c =
-    let a = c .before .before .before .before .before .before .before .args in
-    rw (c .refused2 .ensures)
-    (refuse-13 (a .flat .now) (a .block-size) (a .out .now) (right (c .before .before .before))
-    (sym (c .before .before .length-wrong .ensures) ∙ c .before .if2 .taken))
+    let a = c .before .before .before .before .before .before .args in
+    rw (c .refused2 .ensures) (refuse-13 (a .flat .now) (a .block-size) (a .out .now) (right (c .before .before)) (c .before .if2 .taken))
 
 div-n : tie.Need-div-n
-div-n c = omega (arith, block-good (c .before .before .before .before .before .before .args .block-size) (right (c .before .before)) .0)
+div-n c = omega (arith, block-good (c .before .before .before .before .before .args .block-size) (right (c .before)) .0)
 
 measure-requires : tie.Need-measure-requires
 measure-requires c κs =
-    let a = c .before .before .before .before .before .before .args in
-    let b = block-good (a .block-size) (right (c .before .before)) in
+    let a = c .before .before .before .before .before .args in
+    let b = block-good (a .block-size) (right (c .before)) in
     let l = length-good (length (a .flat .now)) (a .block-size) (whole c) in
     (omega (arith, l .1), b .0, b .2, l .0)
 
@@ -64,24 +63,24 @@ refused-requires-3 c κs = search needs
 returns-3 : tie.Need-returns-3
 returns-3 c =
     let passed = c .before .before .before .before in
-    let a = passed .before .before .before .before .before .before .args in
+    let a = passed .before .before .before .before .before .args in
     rw (c .refused3 .ensures)
-    (too-short (a .flat .now) (a .block-size) (a .out .now) (right (passed .before .before)) (whole passed)
+    (too-short (a .flat .now) (a .block-size) (a .out .now) (right (passed .before)) (whole passed)
     (c .before .before .before .measure .result .bytes) (c .before .before .before .measure .ensures .0) (omega (arith, c .before .if3 .taken)))
 
 put-chunks-requires : tie.Need-put-chunks-requires
 put-chunks-requires c κs =
     let passed = c .before .before .before .before in
-    let a = passed .before .before .before .before .before .before .args in
-    let b = block-good (a .block-size) (right (passed .before .before)) in
+    let a = passed .before .before .before .before .before .args in
+    let b = block-good (a .block-size) (right (passed .before)) in
     let l = length-good (length (a .flat .now)) (a .block-size) (whole passed) in
     (omega (arith, c .before .before .before .measure .ensures .0, c .before .if3 .left), l .1, b .0, b .2, l .0)
 
 cast-put-header : tie.Need-cast-put-header
 cast-put-header c =
     let passed = c .before .before .before .before .before .before .before .before in
-    let a = passed .before .before .before .before .before .before .args in
-    let b = block-good (a .block-size) (right (passed .before .before)) in
+    let a = passed .before .before .before .before .before .args in
+    let b = block-good (a .block-size) (right (passed .before)) in
     let l = length-good (length (a .flat .now)) (a .block-size) (whole passed) in
     omega (arith, blocks-small (length (a .flat .now) / a .block-size) (a .block-size) (b .0))
 
@@ -99,8 +98,8 @@ returns-4 c =
     let put = c .before .before .before .before .before .before .before in
     let measured = put .before .before .before .before in
     let passed = measured .before in
-    let a = passed .before .before .before .before .before .before .args in
-    image-put (a .flat .now) (a .block-size) (a .out .now) (right (passed .before .before)) (whole passed)
+    let a = passed .before .before .before .before .before .args in
+    image-put (a .flat .now) (a .block-size) (a .out .now) (right (passed .before)) (whole passed)
     (measured .measure .result .bytes) (measured .measure .result .chunks) (put .put-chunks .result) (c .before .before .before .finish .result)
     (measured .measure .ensures .0) (measured .measure .ensures .1) (put .put-chunks .ensures .0) (c .before .before .before .finish .ensures)
     (omega (arith, put .before .before .if3 .left)) (put .put-chunks .ensures .1) (c .before .before .put-header .ensures)
@@ -112,7 +111,7 @@ write-spec =
     block-right-requires
     refused-requires
     returns
-    length-wrong-requires
+    rem-if2
     refused-requires-2
     returns-2
     div-n

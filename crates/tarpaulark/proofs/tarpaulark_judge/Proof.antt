@@ -1,7 +1,8 @@
 -- `tarpaulark::tarpaulark_judge` meets its contract. Assumes nothing.
 use mathlib.Core.Path.{ap, _∙_}
 use borrow.Author.Needs.{needs}
-use Rattle.tarpaulark.specs.Numbers.{numberOf, countsOf}
+use Rattle.rules.specs.Answer.{numberOf}
+use Rattle.tarpaulark_numbers.specs.Numbers.{verdictNumbers}
 use Rattle.tarpaulark.proofs.tarpaulark_judge.Statement.{statement}
 use Rattle.tarpaulark.proofs.tarpaulark_judge.Tie as tie
 
@@ -15,7 +16,7 @@ verdict-number-requires : tie.Need-verdict-number-requires
 verdict-number-requires c κs = search needs
 
 returns : tie.Need-returns
-returns c = (c .verdict-number .ensures ∙ ap numberOf (c .before .before .judge .ensures), c .before .verdict-answer .ensures ∙ ap countsOf (c .before .before .judge .ensures))
+returns c = (c .verdict-number .ensures ∙ ap numberOf (c .before .before .judge .ensures), c .before .verdict-answer .ensures ∙ ap verdictNumbers (c .before .before .judge .ensures))
 
 pub tarpaulark-judge-spec : {M : Type 1} → statement M
 tarpaulark-judge-spec =

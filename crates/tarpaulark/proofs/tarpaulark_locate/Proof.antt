@@ -1,7 +1,8 @@
 -- `tarpaulark::tarpaulark_locate` meets its contract. Assumes nothing.
 use mathlib.Core.Path.{ap, _∙_}
 use borrow.Author.Needs.{needs}
-use Rattle.tarpaulark.specs.Numbers.{locatedNumber, layoutOf}
+use Rattle.rules.specs.Answer.{numberOf}
+use Rattle.tarpaulark_numbers.specs.Numbers.{layoutNumbers}
 use Rattle.tarpaulark.proofs.tarpaulark_locate.Statement.{statement}
 use Rattle.tarpaulark.proofs.tarpaulark_locate.Tie as tie
 
@@ -15,7 +16,7 @@ located-number-requires : tie.Need-located-number-requires
 located-number-requires c κs = search needs
 
 returns : tie.Need-returns
-returns c = (c .located-number .ensures ∙ ap locatedNumber (c .before .before .locate .ensures .0), c .before .located-answer .ensures ∙ ap layoutOf (c .before .before .locate .ensures .0))
+returns c = (c .located-number .ensures ∙ ap numberOf (c .before .before .locate .ensures), c .before .located-answer .ensures ∙ ap layoutNumbers (c .before .before .locate .ensures))
 
 pub tarpaulark-locate-spec : {M : Type 1} → statement M
 tarpaulark-locate-spec =

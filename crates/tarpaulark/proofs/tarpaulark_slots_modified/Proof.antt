@@ -1,13 +1,18 @@
 -- `tarpaulark::tarpaulark_slots_modified` meets its contract. Assumes nothing.
 use borrow.Author.Needs.{needs}
+use Rattle.slot_on_bytes.proofs.OnBytes.{handed}
 use Rattle.tarpaulark.proofs.tarpaulark_slots_modified.Statement.{statement}
 use Rattle.tarpaulark.proofs.tarpaulark_slots_modified.Tie as tie
 
-operate-requires : tie.Need-operate-requires
-operate-requires c κs = search needs
+partition-modified-requires : tie.Need-partition-modified-requires
+partition-modified-requires c κs = search needs
+
+hand-over-requires : tie.Need-hand-over-requires
+hand-over-requires c κs = search needs
 
 returns : tie.Need-returns
-returns c = (cc, cc, cc)
+returns c = handed _ _ (c .hand-over .ensures) (c .before .before .before .partition-modified .ensures)
 
 pub tarpaulark-slots-modified-spec : {M : Type 1} → statement M
-tarpaulark-slots-modified-spec = tie.close (tie.spec operate-requires returns)
+tarpaulark-slots-modified-spec =
+    tie.close (tie.spec partition-modified-requires hand-over-requires returns)

@@ -1,13 +1,18 @@
 -- `tarpaulark::tarpaulark_slots_set_active` meets its contract. Assumes nothing.
 use borrow.Author.Needs.{needs}
+use Rattle.slot_on_bytes.proofs.OnBytes.{handed}
 use Rattle.tarpaulark.proofs.tarpaulark_slots_set_active.Statement.{statement}
 use Rattle.tarpaulark.proofs.tarpaulark_slots_set_active.Tie as tie
 
-operate-requires : tie.Need-operate-requires
-operate-requires c κs = search needs
+set-active-requires : tie.Need-set-active-requires
+set-active-requires c κs = search needs
+
+hand-over-requires : tie.Need-hand-over-requires
+hand-over-requires c κs = search needs
 
 returns : tie.Need-returns
-returns c = (cc, cc, cc)
+returns c = handed _ _ (c .hand-over .ensures) (c .before .before .before .set-active .ensures)
 
 pub tarpaulark-slots-set-active-spec : {M : Type 1} → statement M
-tarpaulark-slots-set-active-spec = tie.close (tie.spec operate-requires returns)
+tarpaulark-slots-set-active-spec =
+    tie.close (tie.spec set-active-requires hand-over-requires returns)

@@ -1,7 +1,8 @@
 -- `tarpaulark::tarpaulark_store` meets its contract. Assumes nothing.
 use mathlib.Core.Path.{ap, _∙_}
 use borrow.Author.Needs.{needs}
-use Rattle.tarpaulark.specs.Numbers.{numberOf, countsOf}
+use Rattle.rules.specs.Answer.{numberOf}
+use Rattle.tarpaulark_numbers.specs.Numbers.{verdictNumbers}
 use Rattle.tarpaulark.proofs.tarpaulark_store.Statement.{statement}
 use Rattle.tarpaulark.proofs.tarpaulark_store.Tie as tie
 
@@ -18,7 +19,7 @@ same-length : tie.Need-same-length
 same-length c = search needs
 
 returns : tie.Need-returns
-returns c = (c .verdict-number .ensures ∙ ap numberOf (c .before .before .before .before .store .ensures .0), c .before .verdict-answer .ensures ∙ ap countsOf (c .before .before .before .before .store .ensures .0), c .before .before .before .before .store .ensures .1)
+returns c = (c .verdict-number .ensures ∙ ap numberOf (c .before .before .before .before .store .ensures .0), c .before .verdict-answer .ensures ∙ ap verdictNumbers (c .before .before .before .before .store .ensures .0), c .before .before .before .before .store .ensures .1)
 
 pub tarpaulark-store-spec : {M : Type 1} → statement M
 tarpaulark-store-spec =

@@ -1,7 +1,8 @@
 -- `tarpaulark::tarpaulark_store_limited` meets its contract. Assumes nothing.
 use mathlib.Core.Path.{ap, _∙_}
 use borrow.Author.Needs.{needs}
-use Rattle.tarpaulark.specs.Numbers.{cutNumberOf, cutCountsOf}
+use Rattle.rules.specs.Answer.{numberOf}
+use Rattle.tarpaulark_numbers.specs.Numbers.{countNumbers}
 use Rattle.tarpaulark.proofs.tarpaulark_store_limited.Statement.{statement}
 use Rattle.tarpaulark.proofs.tarpaulark_store_limited.Tie as tie
 
@@ -18,7 +19,7 @@ same-length : tie.Need-same-length
 same-length c = search needs
 
 returns : tie.Need-returns
-returns c = (c .cut-number .ensures ∙ ap cutNumberOf (c .before .before .before .before .store-limited .ensures .0), c .before .cut-answer .ensures ∙ ap cutCountsOf (c .before .before .before .before .store-limited .ensures .0), c .before .before .before .before .store-limited .ensures .1)
+returns c = (c .cut-number .ensures ∙ ap numberOf (c .before .before .before .before .store-limited .ensures .0), c .before .cut-answer .ensures ∙ ap countNumbers (c .before .before .before .before .store-limited .ensures .0), c .before .before .before .before .store-limited .ensures .1)
 
 pub tarpaulark-store-limited-spec : {M : Type 1} → statement M
 tarpaulark-store-limited-spec =

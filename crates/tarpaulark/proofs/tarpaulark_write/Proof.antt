@@ -1,7 +1,8 @@
 -- `tarpaulark::tarpaulark_write` meets its contract. Assumes nothing.
 use mathlib.Core.Path.{ap, _∙_}
 use borrow.Author.Needs.{needs}
-use Rattle.tarpaulark.specs.Numbers.{writtenNumber, writtenOf}
+use Rattle.rules.specs.Answer.{numberOf}
+use Rattle.tarpaulark_numbers.specs.Numbers.{countNumbers}
 use Rattle.tarpaulark.proofs.tarpaulark_write.Statement.{statement}
 use Rattle.tarpaulark.proofs.tarpaulark_write.Tie as tie
 
@@ -18,7 +19,7 @@ same-length : tie.Need-same-length
 same-length c = search needs
 
 returns : tie.Need-returns
-returns c = (c .written-number .ensures ∙ ap writtenNumber (c .before .before .before .before .write .ensures .0), c .before .written-answer .ensures ∙ ap writtenOf (c .before .before .before .before .write .ensures .0), c .before .before .before .before .write .ensures .1)
+returns c = (c .written-number .ensures ∙ ap numberOf (c .before .before .before .before .write .ensures .0), c .before .written-answer .ensures ∙ ap countNumbers (c .before .before .before .before .write .ensures .0), c .before .before .before .before .write .ensures .1)
 
 pub tarpaulark-write-spec : {M : Type 1} → statement M
 tarpaulark-write-spec =

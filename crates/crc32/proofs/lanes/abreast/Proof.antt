@@ -5,7 +5,7 @@ use Prim.Native.Nat.{_-_, _≤_}
 use native.Mathlib.Omega.{arith}
 use borrow.Author.Needs.{needs}
 use lib.ListN.{length}
-use Rattle.crc32.proofs.Pieces.{Lane, lane-start, lane-more, lane-done}
+use Rattle.crc32_rules.proofs.Pieces.{Lane, lane-start, lane-more, lane-done}
 use Rattle.crc32.proofs.lanes.abreast.Statement.{statement}
 use Rattle.crc32.proofs.lanes.abreast.Tie as tie
 

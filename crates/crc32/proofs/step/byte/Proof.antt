@@ -4,7 +4,7 @@ use mathlib.Core.Path.{ap, _∙_}
 use Prim.Native.Nat.{ℕ}
 use lib.Bits.{bitXor}
 use borrow.Author.Needs.{needs}
-use Rattle.crc32.specs.Crc.{steps, byteStep}
+use Rattle.crc32_rules.specs.Crc.{steps, byteStep}
 use Rattle.crc32.proofs.step.byte.Statement.{statement}
 use Rattle.crc32.proofs.step.byte.Tie as tie
 

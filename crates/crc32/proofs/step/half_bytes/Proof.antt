@@ -1,7 +1,7 @@
 -- `crc32::step::half_bytes` meets its contract: antt computes the test over the whole table.
 -- Assumes nothing.
 use mathlib.Core.Path.{refl}
-use Rattle.crc32.specs.Crc.{bit, steps}
+use Rattle.crc32_rules.specs.Crc.{bit, steps}
 use Rattle.crc32.proofs.step.half_bytes.Statement.{statement}
 use Rattle.crc32.proofs.step.half_bytes.Tie as tie
 

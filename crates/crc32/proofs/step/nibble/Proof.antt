@@ -1,7 +1,7 @@
 -- `crc32::step::nibble` meets its contract, by the table's rule.
 -- Assumes nothing.
 use borrow.Author.Needs.{needs}
-use Rattle.crc32.proofs.Nibble.{nibble}
+use Rattle.crc32_rules.proofs.Nibble.{nibble}
 use Rattle.crc32.proofs.step.nibble.Statement.{statement}
 use Rattle.crc32.proofs.step.nibble.Tie as tie
 

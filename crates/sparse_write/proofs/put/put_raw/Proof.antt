@@ -1,6 +1,6 @@
 -- `sparse_write::put::put_raw` meets its contract: a header, the data after it, and the state over the data as they stand there.
 -- Assumes nothing.
-use Rattle.sparse_write.proofs.Putting.{raw-sum}
+use Rattle.sparse_put.proofs.Putting.{raw-put}
 use borrow.Author.Needs.{needs}
 use Rattle.sparse_write.proofs.put.put_raw.Statement.{statement}
 use Rattle.sparse_write.proofs.put.put_raw.Tie as tie
@@ -43,7 +43,7 @@ returns c =
     let copied = c .before .before .before .before .before in
     let headed = copied .before .before .before .before in
     let a = headed .before .before .before .before .args in
-    raw-sum (a .blocks) (a .src .now) (a .out .now) (a .pos) (a .state) (c .update .result) (headed .before .before .before .before .pre .0)
+    raw-put (a .blocks) (a .src .now) (a .out .now) (a .pos) (a .state) (c .update .result) (headed .before .before .before .before .pre .0)
     (headed .put-head .ensures) (copied .copy .ensures) (c .update .ensures)
 
 pub put-raw-spec : {M : Type 1} → statement M

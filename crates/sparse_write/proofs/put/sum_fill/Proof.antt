@@ -1,7 +1,7 @@
 -- `sparse_write::put::sum_fill` meets its contract.
 -- Assumes nothing.
 use mathlib.Core.Path.{sym, ap, _∙_}
-use Rattle.crc32.specs.Crc.{crcFrom}
+use Rattle.crc32_rules.specs.Crc.{crcFrom}
 use borrow.Author.Needs.{needs}
 use Rattle.sparse_write.proofs.put.sum_fill.Statement.{statement}
 use Rattle.sparse_write.proofs.put.sum_fill.Tie as tie

@@ -6,10 +6,10 @@ use Rattle.vectors.proofs.slot_cases.block.Statement.{statement}
 use Rattle.vectors.proofs.slot_cases.block.Tie as tie
 
 abbrev Inv-loop : tie.InvT-loop
-Inv-loop file at index cases state₀ done₀ t7 state done = Unit {0}
+Inv-loop rest cases state₀ done₀ state done = Unit {0}
 
 abbrev μ-loop : tie.MeasureT-loop
-μ-loop file at index cases state₀ done₀ t7 state done = length cases - done
+μ-loop rest cases state₀ done₀ state done = length cases - done
 
 mul-part : tie.Need-mul-part Inv-loop μ-loop
 mul-part c = search needs
@@ -26,8 +26,14 @@ loop-holds c = search needs
 part-requires-2 : tie.Need-part-requires-2 Inv-loop μ-loop
 part-requires-2 c κs = search needs
 
-summed-requires : tie.Need-summed-requires Inv-loop μ-loop
-summed-requires c κs = search needs
+outcome-requires : tie.Need-outcome-requires Inv-loop μ-loop
+outcome-requires c κs = search needs
+
+slice-aggregate-update : tie.Need-slice-aggregate-update Inv-loop μ-loop
+slice-aggregate-update c = search needs
+
+update-requires : tie.Need-update-requires Inv-loop μ-loop
+update-requires c κs = search needs
 
 add-done : tie.Need-add-done Inv-loop μ-loop
 add-done c = search needs
@@ -38,12 +44,6 @@ loop-less c = search needs
 loop-again : tie.Need-loop-again Inv-loop μ-loop
 loop-again c = search needs
 
-slice-aggregate-begin : tie.Need-slice-aggregate-begin Inv-loop μ-loop
-slice-aggregate-begin c = search needs
-
-begin-requires : tie.Need-begin-requires Inv-loop μ-loop
-begin-requires c κs = search needs
-
 finish-requires : tie.Need-finish-requires Inv-loop μ-loop
 finish-requires c κs = search needs
 
@@ -52,9 +52,6 @@ cast-value c = search needs
 
 value-requires : tie.Need-value-requires Inv-loop μ-loop
 value-requires c κs = search needs
-
-end-requires : tie.Need-end-requires Inv-loop μ-loop
-end-requires c κs = search needs
 
 mul-result : tie.Need-mul-result Inv-loop μ-loop
 mul-result c = search needs
@@ -73,15 +70,14 @@ block-spec =
     start-requires
     loop-holds
     part-requires-2
-    summed-requires
+    outcome-requires
+    slice-aggregate-update
+    update-requires
     add-done
     loop-less
     loop-again
-    slice-aggregate-begin
-    begin-requires
     finish-requires
     cast-value
     value-requires
-    end-requires
     mul-result
     returns)

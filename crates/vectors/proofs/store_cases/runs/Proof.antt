@@ -11,6 +11,24 @@ Inv-loop case partition₀ images first at₀ left₀ partition at left = length
 abbrev μ-loop : tie.MeasureT-loop
 μ-loop case partition₀ images first at₀ left₀ partition at left = left
 
+slice-relend-prefix-store-images : tie.Need-slice-relend-prefix-store-images Inv-loop μ-loop
+slice-relend-prefix-store-images c = search needs
+
+slice-aggregate-store-images : tie.Need-slice-aggregate-store-images Inv-loop μ-loop
+slice-aggregate-store-images c = search needs
+
+store-images-requires : tie.Need-store-images-requires Inv-loop μ-loop
+store-images-requires c κs = search needs
+
+read16-requires : tie.Need-read16-requires Inv-loop μ-loop
+read16-requires c κs = search needs
+
+cast-prepare : tie.Need-cast-prepare Inv-loop μ-loop
+cast-prepare c = search needs
+
+prepare-requires : tie.Need-prepare-requires Inv-loop μ-loop
+prepare-requires c κs = search needs
+
 past-requires : tie.Need-past-requires Inv-loop μ-loop
 past-requires c κs = search needs
 
@@ -41,8 +59,8 @@ loop-less c = search needs
 loop-again : tie.Need-loop-again Inv-loop μ-loop
 loop-again c = search needs
 
-store-images-requires : tie.Need-store-images-requires Inv-loop μ-loop
-store-images-requires c κs = search needs
+store-images-requires-2 : tie.Need-store-images-requires-2 Inv-loop μ-loop
+store-images-requires-2 c κs = search needs
 
 checksum-requires : tie.Need-checksum-requires Inv-loop μ-loop
 checksum-requires c κs = search needs
@@ -65,6 +83,12 @@ runs-spec =
     (tie.spec
     Inv-loop
     μ-loop
+    slice-relend-prefix-store-images
+    slice-aggregate-store-images
+    store-images-requires
+    read16-requires
+    cast-prepare
+    prepare-requires
     past-requires
     part-requires
     read32-requires
@@ -75,7 +99,7 @@ runs-spec =
     sub-left
     loop-less
     loop-again
-    store-images-requires
+    store-images-requires-2
     checksum-requires
     cast-value
     value-requires

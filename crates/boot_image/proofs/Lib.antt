@@ -1,0 +1,4 @@
+pub mod Carrying
+pub mod Ends
+pub mod Judging
+pub mod Laying

@@ -1,0 +1,35 @@
+// The sections of an Android boot image, header versions 0 to 4: where each begins and how long it
+// is, or the number of the first refusal that applies. The sections are laid out one after another
+// (sections.rt), each position rounded up to a page by shifts (pages.rt).
+mod pages;
+mod sections;
+
+use boot_header::offset_in;
+use boot_header::tests::header_refusal;
+use boot_rules::Located;
+use sections::any_overrun;
+use sections::lay;
+use sections::misplaced;
+ghost use mathlib.Core.Path.{_≡_};
+ghost use Rattle.boot_rules.specs.Tests.{answer, answerOf};
+
+// Finds the sections of a boot image; any bytes are taken.
+pub fn locate(image: &[u8]) -> Located
+    ensures { λ r. ⌜ answerOf r ≡ answer (now (image .entry)) ⌝ }
+{
+    let refusal = header_refusal(image);
+    if 0 < refusal {
+        return Located::Refused(refusal);
+    }
+    let laid = lay(image);
+    let Located::Found(layout) = laid else {
+        return laid;
+    };
+    if misplaced(offset_in(image), layout.recovery) {
+        return Located::Refused(27);
+    }
+    if any_overrun(image.len() as u64, layout) {
+        return Located::Refused(26);
+    }
+    laid
+}

@@ -1,0 +1,5 @@
+pub mod Table
+pub mod Pages
+pub mod Sections
+pub mod Tests
+pub mod Sound

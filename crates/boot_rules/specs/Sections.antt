@@ -1,0 +1,67 @@
+-- The sections of a boot image, as its header gives them.
+-- Assumes nothing.
+use mathlib.Core.Bool.{Bool, true, false, cond}
+use mathlib.Core.List.{List, [], _∷_}
+use Prim.Native.Nat.{ℕ, _+_}
+use lib.ListN.{getD}
+use Rattle.boot_rules.specs.declared.Layout.{Layout}
+use Rattle.boot_rules.specs.declared.Section.{Section}
+use Rattle.boot_rules.specs.declared.Field.{Field}
+use Rattle.boot_rules.specs.declared.Row.{Row}
+use Rattle.boot_rules.specs.Pages.{roundUp}
+use Rattle.boot_rules.specs.Table.{has, number, rowOf, pageSize, recoveryOffset, sizeFields}
+use Rattle.fields_rules.specs.Number.{numberAt}
+
+-- "the version stands at byte 40 in every header"
+abbrev pub versionOf : List ℕ → ℕ
+versionOf s = numberAt s 40 4
+
+-- the row of the image's version
+abbrev pub rowIn : List ℕ → Row
+rowIn s = rowOf (versionOf s)
+
+-- "The page is 4,096 bytes for versions 3 and 4", which have no page size field
+abbrev pub pageBy : List ℕ → Row → ℕ
+pageBy s r = cond (has (pageSize r)) (number s (pageSize r)) 4096
+
+-- the page of an image
+abbrev pub pageIn : List ℕ → ℕ
+pageIn s = pageBy s (rowIn s)
+
+-- the recovery offset that an image states
+abbrev pub offsetIn : List ℕ → ℕ
+offsetIn s = number s (recoveryOffset (rowIn s))
+
+-- a section that the version lacks
+abbrev pub noSection : Section
+noSection = record { present = false; position = 0; size = 0 }
+
+-- a section of the version, or none where the version lacks it
+abbrev pub sectionAt : Bool → ℕ → ℕ → Section
+sectionAt here position size = cond here (record { present = true; position = position; size = size }) noSection
+
+-- "each next one begins after the last, rounded up to a page": sections of these size fields, from a position on
+abbrev pub place : List ℕ → ℕ → ℕ → List Field → List Section
+place s page position [] = []
+place s page position (f ∷ fs) = sectionAt (has f) position (number s f) ∷ place s page (roundUp (position + number s f) page) fs
+
+-- "The first section begins at one page": the sections of an image, those that its version lacks being marked
+unfoldable pub sectionsOf : List ℕ → List Section
+sectionsOf s = place s (pageIn s) (pageIn s) (sizeFields (rowIn s))
+
+-- "its version and the position and size of each section of that version"
+abbrev pub layoutOf : ℕ → List Section → Layout
+layoutOf v xs =
+    record {
+      version = v;
+      kernel = getD xs 0 noSection;
+      ramdisk = getD xs 1 noSection;
+      second = getD xs 2 noSection;
+      recovery = getD xs 3 noSection;
+      dtb = getD xs 4 noSection;
+      signature = getD xs 5 noSection;
+    }
+
+-- the sections of a layout in their order
+abbrev pub sectionsIn : Layout → List Section
+sectionsIn l = l .kernel ∷ l .ramdisk ∷ l .second ∷ l .recovery ∷ l .dtb ∷ l .signature ∷ []

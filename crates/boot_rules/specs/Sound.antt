@@ -1,0 +1,25 @@
+-- What holds of the sections of an accepted image.
+-- Assumes nothing.
+use mathlib.Core.Path.{_≡_}
+use mathlib.Core.Bool.{true}
+use mathlib.Core.List.{List}
+use Prim.Native.Nat.{ℕ, _+_, _%_, _≤_, _<_}
+use lib.ListN.{getD, length}
+use Rattle.rules.specs.Answer.{accepted}
+use Rattle.boot_rules.specs.declared.Layout.{Layout}
+use Rattle.boot_rules.specs.declared.Section.{Section}
+use Rattle.boot_rules.specs.Sections.{noSection, pageIn, sectionsIn}
+use Rattle.boot_rules.specs.Table.{Within}
+use Rattle.boot_rules.specs.Tests.{answer}
+
+-- sections in an input of n bytes with this page: each that is not empty lies inside the input, each begins at a multiple of the page and not before the first page, they stand in order, and no byte belongs to two
+pub record SoundSections (n page : ℕ) (xs : List Section) : Type 0 where
+  pub inside : (i : ℕ) → 0 < getD xs i noSection .size → getD xs i noSection .position + getD xs i noSection .size ≤ n
+  pub whole : (i : ℕ) → getD xs i noSection .position % page ≡ 0
+  pub begins : (i : ℕ) → getD xs i noSection .present ≡ true → page ≤ getD xs i noSection .position
+  pub order : (i j : ℕ) → i < j → getD xs j noSection .present ≡ true → getD xs i noSection .position + getD xs i noSection .size ≤ getD xs j noSection .position
+  pub apart : (i j k : ℕ) → i < j → Within (getD xs i noSection .position) (getD xs i noSection .size) k → Within (getD xs j noSection .position) (getD xs j noSection .size) k → ⊥
+
+-- the sections of every accepted image, in that image and with its page
+abbrev pub Sound : Type 0
+Sound = (s : List ℕ) (l : Layout) → answer s ≡ accepted l → SoundSections (length s) (pageIn s) (sectionsIn l)

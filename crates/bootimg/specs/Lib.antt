@@ -1,6 +1,0 @@
-pub mod Table
-pub mod Pages
-pub mod Sections
-pub mod Tests
-pub mod Sound
-pub mod Steps

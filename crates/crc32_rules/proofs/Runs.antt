@@ -1,0 +1,55 @@
+-- Runs of zero bytes and of a word, as so many times a few one-bit steps with something added.
+-- Assumes nothing.
+use mathlib.Core.Path.{_≡_, refl, sym, ap, _∙_}
+use mathlib.Core.List.{flatten}
+use Prim.Native.Nat.{ℕ, zero, suc, _+_, _*_, _/_, _%_, _^_, _<_}
+use native.Mathlib.Omega.{arith}
+use lib.Arith.{lt-one}
+use lib.Bits.{bitXor, xor-comm, xor-zero-r}
+use lib.ListN.{replicate}
+use lib.Pow.{pow-add}
+use Rattle.fields_rules.specs.Number.{bytes}
+use Rattle.crc32_rules.specs.Crc.{steps, byteStep, crcFrom}
+use Rattle.crc32_rules.specs.Power.{repeated, rounds}
+use Rattle.crc32_rules.proofs.Xor.{xor-assoc}
+use Rattle.crc32_rules.proofs.Linear.{steps-xor, steps-add, steps-split}
+use Rattle.crc32_rules.proofs.Laws.{crc-append}
+
+-- n zero bytes: n times eight steps
+pub zero-runs : (n s : ℕ) → crcFrom s (replicate n 0) ≡ rounds 8 0 n s
+unfolding crcFrom rounds byteStep
+zero-runs zero s = refl
+zero-runs (suc n) s =
+    zero-runs n (byteStep s 0)
+    ∙ ap (rounds 8 0 n) (ap (steps 8) (xor-zero-r s) ∙ sym (xor-zero-r (steps 8 s)))
+
+-- the low byte of a number goes in, the others move down
+low-byte : (s v : ℕ) → steps 8 (bitXor s v) ≡ bitXor (byteStep s (v % 256)) (v / 256)
+unfolding byteStep
+low-byte s v =
+    steps-xor 8 s v
+    ∙ ap (bitXor (steps 8 s)) (steps-split 8 v ∙ xor-comm (v / 256) (steps 8 (v % 256)))
+    ∙ sym (xor-assoc (steps 8 s) (steps 8 (v % 256)) (v / 256))
+    ∙ ap (λ (x : ℕ). bitXor x (v / 256)) (sym (steps-xor 8 s (v % 256)))
+
+-- a number of w bytes goes in at once
+pub number : (w s v : ℕ) → v < 2 ^ (w * 8) → steps (w * 8) (bitXor s v) ≡ crcFrom s (bytes w v)
+unfolding crcFrom steps
+number zero s v h = ap (bitXor s) (lt-one h) ∙ xor-zero-r s
+number (suc w) s v h =
+    let e : suc w * 8 ≡ 8 + w * 8 = omega arith in
+    let p : 2 ^ (suc w * 8) ≡ 256 * 2 ^ (w * 8) = ap (λ (n : ℕ). 2 ^ n) e ∙ pow-add 2 8 (w * 8) in
+    let small : v / 256 < 2 ^ (w * 8) = omega arith in
+    ap (λ (n : ℕ). steps n (bitXor s v)) e
+    ∙ steps-add 8 (w * 8) (bitXor s v)
+    ∙ ap (steps (w * 8)) (low-byte s v)
+    ∙ number w (byteStep s (v % 256)) (v / 256) small
+
+-- n times the four bytes of a word: n times 32 steps, and the word's own 32 steps are added
+pub word-runs : (n s v : ℕ) → v < 2 ^ 32 → crcFrom s (repeated n (bytes 4 v)) ≡ rounds 32 (steps 32 v) n s
+unfolding crcFrom rounds flatten
+word-runs zero s v h = refl
+word-runs (suc n) s v h =
+    crc-append s (bytes 4 v) (repeated n (bytes 4 v))
+    ∙ word-runs n (crcFrom s (bytes 4 v)) v h
+    ∙ ap (rounds 32 (steps 32 v) n) (sym (number 4 s v h) ∙ steps-xor 32 s v)

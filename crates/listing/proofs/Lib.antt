@@ -1,5 +1,0 @@
-pub mod Putting
-pub mod Digits
-pub mod Chunks
-pub mod Texts
-pub mod Room

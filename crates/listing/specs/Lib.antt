@@ -1,4 +1,0 @@
-pub mod Words
-pub mod Lines
-pub mod Text
-pub mod Put

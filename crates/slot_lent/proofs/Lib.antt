@@ -1,0 +1,3 @@
+pub mod Held
+pub mod Thin
+pub mod ThinAt

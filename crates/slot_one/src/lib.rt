@@ -1,0 +1,100 @@
+// One slot: what makes it valid, what it may do, and what each operation makes of it.
+use slot_rules::Slot;
+ghost use mathlib.Core.Path.{_≡_};
+ghost use Rattle.slot_rules.specs.OneSlot.{slotValid, mayStart, mayTakeOver, mayConfirm, spent, marked, activated, modified, confirmed, newSlot};
+
+// Whether the slot may stand in a valid record: one that is not used always may.
+pub fn is_slot_valid(s: Slot) -> bool
+    ensures { λ b. ⌜ b ≡ slotValid s ⌝ }
+{
+    !s.used | ((s.tries <= 7) & !(s.unbootable & s.successful))
+}
+
+// Whether the slot starts where it is current.
+pub fn can_start(s: Slot) -> bool
+    ensures { λ b. ⌜ b ≡ mayStart s ⌝ }
+{
+    !s.unbootable & (s.successful | (0 < s.tries))
+}
+
+// Whether the slot starts in the place of a current one that does not.
+pub fn can_take_over(s: Slot) -> bool
+    ensures { λ b. ⌜ b ≡ mayTakeOver s ⌝ }
+{
+    s.used & s.successful & !s.unbootable
+}
+
+// Whether the slot can be confirmed.
+pub fn can_confirm(s: Slot) -> bool
+    ensures { λ b. ⌜ b ≡ mayConfirm s ⌝ }
+{
+    !s.unbootable
+}
+
+// The slot after it starts: one try less, unless it is successful.
+pub fn spend(s: Slot) -> Slot
+    ensures { λ t. ⌜ t ≡ spent s ⌝ }
+{
+    let mut t = s;
+    if s.successful {
+        return t;
+    }
+    if 0 < s.tries {
+        t.tries = s.tries - 1;
+    }
+    t
+}
+
+// The slot, marked unbootable.
+pub fn mark(s: Slot) -> Slot
+    ensures { λ t. ⌜ t ≡ marked s ⌝ }
+{
+    let mut t = s;
+    t.unbootable = true;
+    t
+}
+
+// The slot after it was set active.
+pub fn activate(s: Slot) -> Slot
+    ensures { λ t. ⌜ t ≡ activated s ⌝ }
+{
+    Slot {
+        used: s.used,
+        unbootable: false,
+        successful: false,
+        tries: 3,
+    }
+}
+
+// The slot after its partition was modified.
+pub fn modify(s: Slot) -> Slot
+    ensures { λ t. ⌜ t ≡ modified s ⌝ }
+{
+    Slot {
+        used: s.used,
+        unbootable: s.unbootable,
+        successful: false,
+        tries: 3,
+    }
+}
+
+// The slot after it was confirmed.
+pub fn make_successful(s: Slot) -> Slot
+    ensures { λ t. ⌜ t ≡ confirmed s ⌝ }
+{
+    let mut t = s;
+    t.successful = true;
+    t
+}
+
+// A slot of a fresh record.
+pub fn new_slot(used: bool, tries: u8) -> Slot
+    ensures { λ t. ⌜ t ≡ newSlot used tries ⌝ }
+{
+    Slot {
+        used: used,
+        unbootable: false,
+        successful: false,
+        tries: tries,
+    }
+}

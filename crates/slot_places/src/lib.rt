@@ -1,0 +1,70 @@
+// The record's four places: the slot at each, whether it is in use and whether all are valid, one of
+// them replaced, and a new record.
+use slot_one::is_slot_valid;
+use slot_one::new_slot;
+use slot_rules::Record;
+use slot_rules::Slot;
+ghost use mathlib.Core.Path.{_≡_};
+ghost use Rattle.slot_rules.specs.Records.{slotAt, slotsValid, valid, inUse, replaced, newRecord};
+
+// The slot at a place; past d, one that is not used.
+pub fn slot_at(r: Record, place: u8) -> Slot
+    ensures { λ s. ⌜ s ≡ slotAt r place ⌝ }
+{
+    if place < 4 {
+        let i = place as usize;
+        return r.slots[i];
+    }
+    new_slot(false, 0)
+}
+
+// Whether each of the four slots is valid.
+fn are_slots_valid(r: Record) -> bool
+    ensures { λ b. ⌜ b ≡ slotsValid r ⌝ }
+{
+    is_slot_valid(slot_at(r, 0))
+        & is_slot_valid(slot_at(r, 1))
+        & is_slot_valid(slot_at(r, 2))
+        & is_slot_valid(slot_at(r, 3))
+}
+
+// Whether the place is not past d and in use.
+pub fn is_in_use(r: Record, place: u8) -> bool
+    ensures { λ b. ⌜ b ≡ inUse r place ⌝ }
+{
+    let s = slot_at(r, place);
+    (place < 4) & s.used
+}
+
+// Whether the record is valid.
+pub fn is_valid(r: Record) -> bool
+    ensures { λ b. ⌜ b ≡ valid r ⌝ }
+{
+    is_in_use(r, r.current) & are_slots_valid(r)
+}
+
+// The record with one entry replaced; past d there is none.
+pub fn replace(r: Record, place: u8, s: Slot) -> Record
+    ensures { λ n. ⌜ n ≡ replaced r place s ⌝ }
+{
+    let mut n = r;
+    if place < 4 {
+        let i = place as usize;
+        n.slots[i] = s;
+    }
+    n
+}
+
+// The record with n slots in use, a current, flags clear, and these tries in all four places.
+pub fn new_record(n: u8, tries: u8) -> Record
+    ensures { λ r. ⌜ r ≡ newRecord n tries ⌝ }
+{
+    let a = new_slot(0 < n, tries);
+    let b = new_slot(1 < n, tries);
+    let c = new_slot(2 < n, tries);
+    let d = new_slot(3 < n, tries);
+    Record {
+        slots: [a, b, c, d],
+        current: 0,
+    }
+}

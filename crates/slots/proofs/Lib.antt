@@ -1,9 +1,0 @@
-pub mod Laws
-pub mod OneSlot
-pub mod Places
-pub mod Steps
-pub mod Promises
-pub mod Answers
-pub mod Held
-pub mod Thin
-pub mod ThinAt

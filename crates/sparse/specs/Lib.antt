@@ -1,7 +1,0 @@
-pub mod Header
-pub mod Chunks
-pub mod Cells
-pub mod Judge
-pub mod Answers
-pub mod Facts
-pub mod Theorems

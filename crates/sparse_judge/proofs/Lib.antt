@@ -1,0 +1,3 @@
+pub mod Pending
+pub mod Sums
+pub mod Verdicts

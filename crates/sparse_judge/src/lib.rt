@@ -1,0 +1,6 @@
+// The judge of sparse images.
+mod checked;
+mod judging;
+mod sum;
+
+pub use judging::judge;

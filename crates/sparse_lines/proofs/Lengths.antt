@@ -1,0 +1,36 @@
+-- How long the lines can be.
+-- Assumes nothing.
+use Prim.Native.Nat.{ℕ, _≤_}
+use native.Mathlib.Omega.{arith}
+use lib.ListN.{length, length-append}
+use Rattle.text.specs.Words.{ascii}
+use Rattle.text.proofs.Digits.{decimal-most, labelled-most}
+use Rattle.sparse_rules.specs.declared.Header.{Header}
+use Rattle.sparse_rules.specs.declared.Kind.{Kind}
+use Rattle.sparse_rules.specs.declared.Kind.the-variants.{Raw, Fill, DontCare, Unknown}
+use Rattle.sparse_rules.specs.declared.Chunk.{Chunk}
+use Rattle.sparse_lines.specs.Lines.{kindWord, refusedLine, headerLine, chunkLine, lastLine}
+
+kind-most : (k : Kind) → length (kindWord k) ≤ 9
+unfolding kindWord
+kind-most Raw = omega arith
+kind-most Fill = omega arith
+kind-most DontCare = omega arith
+kind-most Unknown = omega arith
+
+pub refused-most : (n place : ℕ) → length (refusedLine n place) ≤ 64
+unfolding refusedLine
+refused-most n place = simp length-append (omega (arith, labelled-most (ascii "refused ") n, labelled-most (ascii " at ") place))
+
+pub header-most : (h : Header) → length (headerLine h) ≤ 96
+unfolding headerLine
+header-most h = simp length-append (omega (arith, labelled-most (ascii "block ") (h .block), labelled-most (ascii " total ") (h .total), labelled-most (ascii " chunks ") (h .chunks)))
+
+pub chunk-most : (first : ℕ) (k : Chunk) → length (chunkLine first k) ≤ 60
+unfolding chunkLine
+chunk-most first k =
+    simp length-append (omega (arith, decimal-most first, labelled-most (kindWord (k .kind)) (k .blocks), kind-most (k .kind)))
+
+pub last-most : (written skipped : ℕ) → length (lastLine written skipped) ≤ 96
+unfolding lastLine
+last-most written skipped = simp length-append (omega (arith, labelled-most (ascii "ok written ") written, labelled-most (ascii " skipped ") skipped))

@@ -1,0 +1,38 @@
+-- The lines that the lister prints.
+-- Assumes nothing.
+use mathlib.Core.List.{List, [], _∷_}
+use Prim.Native.Nat.{ℕ}
+use Rattle.text.specs.Words.{ascii, decimal, labelled, line}
+use Rattle.sparse_rules.specs.declared.Header.{Header}
+use Rattle.sparse_rules.specs.declared.Kind.{Kind}
+use Rattle.sparse_rules.specs.declared.Kind.the-variants.{Raw, Fill, DontCare, Unknown}
+use Rattle.sparse_rules.specs.declared.Chunk.{Chunk}
+
+-- "Longer input prints `too long` alone"
+unfoldable pub tooLong : List ℕ
+tooLong = ascii "too long\n"
+
+-- "a refusal `refused N at P` alone"
+unfoldable pub refusedLine : ℕ → ℕ → List ℕ
+refusedLine n place = line (labelled (ascii "refused ") n ∷ labelled (ascii " at ") place ∷ [])
+
+-- the first line of an accepted image: block size, total blocks, total chunks
+unfoldable pub headerLine : Header → List ℕ
+headerLine h =
+    line
+    (labelled (ascii "block ") (h .block) ∷ labelled (ascii " total ") (h .total) ∷ labelled (ascii " chunks ") (h .chunks) ∷ [])
+
+-- what the lister calls a chunk: "`raw`, `fill` or `skip`", between two spaces
+unfoldable pub kindWord : Kind → List ℕ
+kindWord Raw = ascii " raw "
+kindWord Fill = ascii " fill "
+kindWord DontCare = ascii " skip "
+kindWord Unknown = ascii " skip "
+
+-- a chunk's line: "first block, `raw`, `fill` or `skip`, blocks"
+unfoldable pub chunkLine : ℕ → Chunk → List ℕ
+chunkLine first k = line (decimal first ∷ labelled (kindWord (k .kind)) (k .blocks) ∷ [])
+
+-- the last line of an accepted image: blocks written, blocks skipped
+unfoldable pub lastLine : ℕ → ℕ → List ℕ
+lastLine written skipped = line (labelled (ascii "ok written ") written ∷ labelled (ascii " skipped ") skipped ∷ [])

@@ -1,0 +1,60 @@
+// The lister's lines, each put into a lent buffer from a place on.
+ghost use Rattle.text.specs.Put.{Put};
+ghost use Rattle.text.specs.Words.{labelled};
+ghost use Rattle.sparse_lines.specs.Lines.{kindWord, refusedLine, headerLine, chunkLine, lastLine};
+use sparse_rules::Chunk;
+use sparse_rules::Header;
+use sparse_rules::Kind;
+use sparse_rules::Refusal;
+
+// The line of a refusal.
+pub fn put_refused(out: &mut [u8], refusal: Refusal) -> usize
+    ensures { λ r. ⌜ Put (now (out .entry)) 0 (refusedLine (refusal .number) (refusal .place)) (now (out .exit)) r ⌝ }
+{
+    let number = refusal.number as u64;
+    text::put_pair(out, 0, b"refused ", number, b" at ", refusal.place)
+}
+
+// The first line of an accepted image.
+pub fn put_header(out: &mut [u8], header: Header) -> usize
+    ensures { λ r. ⌜ Put (now (out .entry)) 0 (headerLine header) (now (out .exit)) r ⌝ }
+{
+    let block = header.block as u64;
+    let total = header.total as u64;
+    let chunks = header.chunks as u64;
+    let next = text::put_labelled(out, 0, b"block ", block);
+    text::put_pair(out, next, b" total ", total, b" chunks ", chunks)
+}
+
+// What a chunk is called, and a number after it.
+fn put_kind(out: &mut [u8], at: usize, kind: Kind, n: u64) -> usize
+    ensures { λ r. ⌜ Put (now (out .entry)) at (labelled (kindWord kind) n) (now (out .exit)) r ⌝ }
+{
+    match kind {
+        Kind::Raw => text::put_labelled(out, at, b" raw ", n),
+        Kind::Fill => text::put_labelled(out, at, b" fill ", n),
+        Kind::DontCare => text::put_labelled(out, at, b" skip ", n),
+        Kind::Unknown => text::put_labelled(out, at, b" skip ", n),
+    }
+}
+
+// The line of a chunk whose first block is given.
+pub fn put_chunk(out: &mut [u8], at: usize, first: u32, chunk: Chunk) -> usize
+    ensures { λ r. ⌜ Put (now (out .entry)) at (chunkLine first chunk) (now (out .exit)) r ⌝ }
+{
+    let block = first as u64;
+    let blocks = chunk.blocks as u64;
+    let kind = chunk.kind;
+    let next = text::put_number(out, at, block);
+    let end = put_kind(out, next, kind, blocks);
+    text::put(out, end, b"\n")
+}
+
+// The last line of an accepted image.
+pub fn put_last(out: &mut [u8], at: usize, written: u32, skipped: u32) -> usize
+    ensures { λ r. ⌜ Put (now (out .entry)) at (lastLine written skipped) (now (out .exit)) r ⌝ }
+{
+    let stored = written as u64;
+    let kept = skipped as u64;
+    text::put_pair(out, at, b"ok written ", stored, b" skipped ", kept)
+}

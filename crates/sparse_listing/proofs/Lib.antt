@@ -1,0 +1,3 @@
+pub mod Chunks
+pub mod Listings
+pub mod Room

@@ -1,0 +1,39 @@
+-- The text of an input by what the judge answers.
+-- Assumes nothing.
+use mathlib.Core.Path.{_≡_, ap, _∙_}
+use mathlib.Core.List.{List}
+use Prim.Native.Nat.{ℕ, _≤_, _<_}
+use lib.ListN.{length}
+use borrow.Author.Tests.{lt-ltb, le-ltb}
+use Rattle.sparse_rules.specs.declared.Chunk.{Chunk}
+use Rattle.rules.specs.Answer.{accepted, refused}
+use Rattle.sparse_rules.specs.Judge.{judged}
+use Rattle.sparse_rules.specs.Answers.{counts, answer}
+use Rattle.sparse_rules.proofs.Image.{answer-accepted, answer-refused}
+use Rattle.sparse_lines.specs.Lines.{tooLong, refusedLine}
+use Rattle.sparse_listing.specs.Listing.{longest, partition, imageLines, listingOf, listing}
+
+module _ (s : List ℕ) where
+  -- an input that is too long
+  pub listing-long : longest < length s → listing s ≡ tooLong
+  unfolding listing
+  listing-long p = rw (lt-ltb longest (length s) p)
+
+  module _ (fits : length s ≤ longest) where
+    -- any other by what is found of it
+    pub listing-found : listing s ≡ listingOf s (judged s (length s) partition)
+    unfolding listing
+    listing-found = rw (le-ltb longest (length s) fits)
+
+    -- a refused image
+    pub listing-refused : (n place : ℕ) → refused n place ≡ answer s (length s) partition → listing s ≡ refusedLine n place
+    unfolding listingOf
+    listing-refused n place e = listing-found ∙ ap (listingOf s) (answer-refused s (length s) partition n place e)
+
+    -- an accepted image
+    pub listing-accepted : (w k : ℕ) → counts w k ≡ answer s (length s) partition
+        → (ks : List Chunk) × (judged s (length s) partition ≡ accepted ks) × (listing s ≡ imageLines s ks w k)
+    unfolding listingOf
+    listing-accepted w k e =
+        let t = answer-accepted s (length s) partition w k e in
+        (t .ks, t .found, listing-found ∙ ap (listingOf s) (t .found) ∙ rw (t .writes, t .skips))

@@ -1,0 +1,100 @@
+-- What an answer says of an image, and what an accepted image gives: the laws that those who store, list or write images go by.
+-- Assumes nothing.
+use mathlib.Core.Path.{_≡_, refl, sym, ap}
+use mathlib.Core.Option.{some}
+use mathlib.Core.List.{List, [], map}
+use Prim.Native.Nat.{ℕ, _*_}
+use native.Mathlib.Omega.{arith}
+use lib.ListN.{length}
+use Rattle.sparse_rules.specs.declared.Header.{Header}
+use Rattle.sparse_rules.specs.declared.Kind.the-variants.{Raw, Fill}
+use Rattle.sparse_rules.specs.declared.Chunk.{Chunk}
+use Rattle.sparse_rules.specs.Header.{headerOf, blockSize, totalChunks}
+use Rattle.sparse_rules.specs.Walk.{Finding, walk, origin}
+use Rattle.rules.specs.Answer.{refused, accepted}
+use Rattle.sparse_rules.specs.Cells.{tab, rawByte, fillByte, cellsBy, cellsOf, cells, written, skipped}
+use Rattle.sparse_rules.specs.Judge.{structure, judged, effectOf, effect}
+use Rattle.sparse_rules.specs.Answers.{Counts, counts, answerFor, answer}
+use Rattle.rules.proofs.Answer.{accepted-same}
+use Rattle.sparse_rules.proofs.Facts.{accepted-facts}
+
+-- ---- an image
+
+-- the structure of an image is the walk by its header, from the first chunk on
+pub structure-walk : (s : List ℕ) (len : ℕ) (h : Header) → h ≡ headerOf s → walk s len h (h .chunks) (origin h) ≡ structure s len
+unfolding structure
+structure-walk s len h e = rw e
+
+module _ (s : List ℕ) (room : ℕ) where
+  -- an accepted image gives the bytes of its chunks
+  pub effect-accepted : (ks : List Chunk) → judged s (length s) room ≡ accepted ks → effect s room ≡ cells s (blockSize s) ks
+  unfolding effect effectOf
+  effect-accepted ks e = ap (effectOf s) e
+
+  -- a refused one gives none
+  pub effect-refused : (n place : ℕ) → judged s (length s) room ≡ refused n place → effect s room ≡ []
+  unfolding effect effectOf
+  effect-refused n place e = ap (effectOf s) e
+
+  -- the chunks of an accepted image are those of the walk from the first one on
+  pub chunks-walked : (ks : List Chunk) → judged s (length s) room ≡ accepted ks
+      → walk s (length s) (headerOf s) (totalChunks s) (origin (headerOf s)) ≡ accepted ks
+  unfolding structure
+  chunks-walked ks e = accepted-facts s (length s) room ks e .chunks
+
+-- a finding that is answered with counts has chunks of so many blocks
+pub record Counted (f : Finding) (w k : ℕ) : Type 0 where
+  pub ks : List Chunk
+  pub found : f ≡ accepted ks
+  pub writes : written ks ≡ w
+  pub skips : skipped ks ≡ k
+
+counted : (f : Finding) (w k : ℕ) → counts w k ≡ answerFor f → Counted f w k
+unfolding answerFor
+counted (accepted ks) w k e =
+    let same = accepted-same e in
+    record { ks = ks; found = refl; writes = sym (ap (λ (n : Counts). n .written) same); skips = sym (ap (λ (n : Counts). n .skipped) same) }
+counted (refused n place) w k e = let z : _≡_ {A = ℕ} 0 1 = cc in absurd (omega arith)
+
+turned-down : (f : Finding) (n place : ℕ) → refused n place ≡ answerFor f → f ≡ refused n place
+unfolding answerFor
+turned-down (accepted ks) n place e = let z : _≡_ {A = ℕ} 0 1 = cc in absurd (omega arith)
+turned-down (refused m at) n place e = cc
+
+module _ (s : List ℕ) (len room : ℕ) where
+  -- an image that is answered with counts is accepted, with so many blocks written and skipped
+  pub answer-accepted : (w k : ℕ) → counts w k ≡ answer s len room → Counted (judged s len room) w k
+  unfolding answer
+  answer-accepted w k e = counted (judged s len room) w k e
+
+  -- one that is answered with a refusal is refused
+  pub answer-refused : (n place : ℕ) → refused n place ≡ answer s len room → judged s len room ≡ refused n place
+  unfolding answer
+  answer-refused n place e = turned-down (judged s len room) n place e
+
+  -- an accepted image is answered with its counts
+  pub answer-counts : (ks : List Chunk) → judged s len room ≡ accepted ks → answer s len room ≡ counts (written ks) (skipped ks)
+  unfolding answer answerFor
+  answer-counts ks e = ap answerFor e
+
+  -- a refused one with its refusal
+  pub answer-refusal : (n place : ℕ) → judged s len room ≡ refused n place → answer s len room ≡ refused n place
+  unfolding answer answerFor
+  answer-refusal n place e = ap answerFor e
+
+-- ---- a chunk
+
+-- a chunk's cells are those of its kind, over all its blocks
+pub chunk-cells : (s : List ℕ) (b : ℕ) (k : Chunk) → cellsOf s b k ≡ cellsBy s (k .kind) (k .body) (k .blocks * b)
+unfolding cellsOf
+chunk-cells s b k = refl
+
+-- raw cells are the data
+pub raw-cells : (s : List ℕ) (at n : ℕ) → cellsBy s Raw at n ≡ map some (tab (rawByte s at) 0 n)
+unfolding cellsBy
+raw-cells s at n = refl
+
+-- fill cells are the 4 bytes, repeated
+pub fill-cells : (s : List ℕ) (at n : ℕ) → cellsBy s Fill at n ≡ map some (tab (fillByte s at) 0 n)
+unfolding cellsBy
+fill-cells s at n = refl

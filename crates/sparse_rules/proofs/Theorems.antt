@@ -1,0 +1,106 @@
+-- What an accepted image adds up to, and that a longer partition changes nothing of it.
+-- Assumes nothing.
+use mathlib.Core.Path.{_≡_, refl, sym, ap, _∙_}
+use mathlib.Core.List.{List, [], _∷_}
+use Prim.Native.Nat.{ℕ, zero, suc, _+_, _*_, _≤_, zero-le}
+use native.Mathlib.Nat.{le-trans, zero-add, zero-lt-suc}
+use native.Mathlib.Numerals.{sub-one}
+use native.Mathlib.Omega.{arith}
+use lib.ListN.{length}
+use borrow.Author.Tests.{ltb-false, le-ltb}
+use Rattle.rules.specs.First.{first}
+use Rattle.sparse_rules.specs.declared.Header.{Header}
+use Rattle.sparse_rules.specs.declared.Cursor.{Cursor}
+use Rattle.sparse_rules.specs.declared.Chunk.{Chunk}
+use Rattle.sparse_rules.specs.Header.{headerOf, headerTests, blockSize, totalBlocks, totalChunks}
+use Rattle.rules.specs.Answer.{accepted, unless, HasNumber}
+use Rattle.rules.proofs.Answer.{unless-number, onward-number}
+use Rattle.sparse_rules.specs.Walk.{more, endTests, walk, origin}
+use Rattle.sparse_rules.specs.Chunks.{chunkTests, chunk, chunkAt, nextCursor, reading}
+use Rattle.sparse_rules.specs.Cells.{written, skipped}
+use Rattle.sparse_rules.specs.Judge.{sumTests, summed, structure, judged, effect, effectOf}
+use Rattle.sparse_rules.specs.Answers.{counts, answer, answerFor}
+use Rattle.sparse_rules.specs.Theorems.{Sums, Unmoved, RefusalNumbers}
+use Rattle.rules.proofs.Tests.{all-fail}
+use Rattle.sparse_rules.proofs.Walk.{stepped, ended}
+use Rattle.sparse_rules.proofs.Facts.{chunk-facts, header-passed, judged-accepted, accepted-facts}
+use Rattle.sparse_rules.proofs.Cells.{written-nil, skipped-nil, blocks-cons, length-cells, count-cells}
+
+-- the chunks of an accepted walk span the blocks from the cursor's to the total
+pub walk-total : (s : List ℕ) (len : ℕ) (h : Header) (n : ℕ) (c : Cursor) (ks : List Chunk) → c .first ≤ h .total → walk s len h n c ≡ accepted ks
+    → c .first + (written ks + skipped ks) ≡ h .total
+walk-total s len h zero c ks p e =
+    let d = ended s len h zero c ks e refl in
+    rw (d .none, written-nil, skipped-nil) (omega (arith, d .filled))
+walk-total s len h (suc n) c ks p e =
+    let d = stepped s len h (suc n) c ks e (zero-lt-suc n) in
+    let f = chunk-facts s len h c (d .here) (d .next) (d .read) in
+    let r = walk-total s len h n (d .next) (d .rest) (f .within) (rw sub-one at (d .walked)) in
+    rw (d .found, blocks-cons (d .here) (d .rest)) (omega (arith, r, f .blocks))
+
+-- an accepted image adds up to its header's total, and has room
+pub sums : Sums
+unfolding structure
+sums s len room ks e =
+    let a = accepted-facts s len room ks e in
+    let t : written ks + skipped ks ≡ totalBlocks s =
+    sym (zero-add _) ∙ walk-total s len (headerOf s) (totalChunks s) (origin (headerOf s)) ks zero-le (a .chunks) in
+    record {
+      total = t;
+      bytes = length-cells s (blockSize s) ks ∙ ap (λ (n : ℕ). n * blockSize s) t;
+      fits = a .header .fits;
+      stored = count-cells s (blockSize s) ks;
+    }
+
+module _ (s : List ℕ) (len : ℕ) (ks : List Chunk) where
+  -- tests that pass with some room pass with more
+  passed-more : (room more : ℕ) → room ≤ more → first (headerTests s len room) ≡ 0 → first (headerTests s len more) ≡ 0
+  unfolding headerTests
+  passed-more room more h e =
+      let t = all-fail (headerTests s len room) (tt, (tt, (tt, (tt, (tt, (tt, tt)))))) e in
+      let fits : totalBlocks s * blockSize s ≤ more = le-trans (ltb-false room (totalBlocks s * blockSize s) (t .1 .1 .1 .1 .1 .0)) h in
+      rw (t .0, t .1 .0, t .1 .1 .0, t .1 .1 .1 .0, t .1 .1 .1 .1 .0, le-ltb more (totalBlocks s * blockSize s) fits)
+
+  -- an image that is accepted for a partition is accepted for a longer one
+  pub judged-more : (room more : ℕ) → room ≤ more → judged s len room ≡ accepted ks → judged s len more ≡ accepted ks
+  judged-more room more h e =
+      let a = accepted-facts s len room ks e in
+      judged-accepted s len more (passed-more room more h (header-passed s len room ks e)) ks (a .chunks) (a .checksum)
+
+-- an accepted image has the same chunks, counts and effect for every partition with more room
+pub unmoved : Unmoved
+unfolding answer effect
+unmoved s room more ks h e =
+    let same : judged s (length s) more ≡ judged s (length s) room = judged-more s (length s) ks room more h e ∙ sym e in
+    record { finding = same; counted = ap answerFor same; given = ap (effectOf s) same }
+
+-- ---- refusal numbers
+
+reading-number : (s : List ℕ) (len : ℕ) (h : Header) (c : Cursor) → HasNumber (reading s len h c)
+unfolding reading
+reading-number s len h c = unless-number (first (chunkTests s len h c)) (c .at) (chunk (chunkAt s h c) (nextCursor s c)) tt
+
+walk-number : (s : List ℕ) (len : ℕ) (h : Header) (n : ℕ) (c : Cursor) → HasNumber (walk s len h n c)
+unfolding walk
+walk-number s len h zero c = unless-number (first (endTests len h c)) (c .at) (accepted []) tt
+walk-number s len h (suc n) c =
+    onward-number (reading s len h c) (λ r. more (r .0) (walk s len h n (r .1))) (reading-number s len h c)
+    (λ r. onward-number (walk s len h n (r .1)) (λ ks. accepted (r .0 ∷ ks)) (walk-number s len h n (r .1)) (λ ks. tt))
+
+judged-number : (s : List ℕ) (len room : ℕ) → HasNumber (judged s len room)
+unfolding judged summed structure
+judged-number s len room =
+    unless-number (first (headerTests s len room)) 0 (summed s (structure s len))
+    (onward-number (structure s len) (λ ks. unless (first (sumTests s ks)) 24 (accepted ks))
+    (walk-number s len (headerOf s) (totalChunks s) (origin (headerOf s)))
+    (λ ks. unless-number (first (sumTests s ks)) 24 (accepted ks) tt))
+
+-- no refusal has the number 0
+pub refusal-numbers : RefusalNumbers
+unfolding answer answerFor
+refusal-numbers =
+    record {
+      chunks = reading-number;
+      images = judged-number;
+      answers = λ s len room. onward-number (judged s len room) (λ ks. counts (written ks) (skipped ks)) (judged-number s len room) (λ ks. tt);
+    }

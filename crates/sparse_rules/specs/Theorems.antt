@@ -1,0 +1,52 @@
+-- Theorems about images: what an accepted one adds up to, that more room changes nothing, and that every refusal has a number.
+-- Assumes nothing.
+use mathlib.Core.Path.{_≡_}
+use mathlib.Core.List.{List}
+use Prim.Native.Nat.{ℕ, _+_, _*_, _≤_}
+use lib.ListN.{length}
+use Rattle.rules.specs.Answer.{accepted, HasNumber}
+use Rattle.sparse_rules.specs.declared.Header.{Header}
+use Rattle.sparse_rules.specs.declared.Cursor.{Cursor}
+use Rattle.sparse_rules.specs.declared.Chunk.{Chunk}
+use Rattle.sparse_rules.specs.Header.{blockSize, totalBlocks}
+use Rattle.sparse_rules.specs.Chunks.{reading}
+use Rattle.sparse_rules.specs.Cells.{count, cells, written, skipped}
+use Rattle.sparse_rules.specs.Judge.{judged, effect}
+use Rattle.sparse_rules.specs.Answers.{answer}
+
+-- what the chunks of an accepted image add up to, for a partition with so much room
+pub record Sum (s : List ℕ) (room : ℕ) (ks : List Chunk) : Type 0 where
+  -- blocks written and blocks skipped: "their sum is the header's total"
+  pub total : written ks + skipped ks ≡ totalBlocks s
+  -- there is a cell for each byte of them
+  pub bytes : length (cells s (blockSize s) ks) ≡ totalBlocks s * blockSize s
+  -- and the partition has room for all
+  pub fits : totalBlocks s * blockSize s ≤ room
+  -- the stored cells are the bytes of the blocks written
+  pub stored : count (cells s (blockSize s) ks) ≡ written ks * blockSize s
+
+-- every accepted image adds up
+abbrev pub Sums : Type 0
+Sums = (s : List ℕ) (len room : ℕ) (ks : List Chunk) → judged s len room ≡ accepted ks → Sum s room ks
+
+-- an image is the same for a partition with some room and for one with more
+pub record Same (s : List ℕ) (room more : ℕ) : Type 0 where
+  -- the same is found
+  pub finding : judged s (length s) more ≡ judged s (length s) room
+  -- with the same counts
+  pub counted : answer s (length s) more ≡ answer s (length s) room
+  -- and every byte is given the same
+  pub given : effect s more ≡ effect s room
+
+-- "It depends on the image alone, never on the partition": every accepted image is the same wherever there is more room
+abbrev pub Unmoved : Type 0
+Unmoved = (s : List ℕ) (room more : ℕ) (ks : List Chunk) → room ≤ more → judged s (length s) room ≡ accepted ks → Same s room more
+
+-- no refusal has the number 0
+pub record RefusalNumbers : Type 0 where
+  -- of a chunk
+  pub chunks : (s : List ℕ) (len : ℕ) (h : Header) (c : Cursor) → HasNumber (reading s len h c)
+  -- of an image
+  pub images : (s : List ℕ) (len room : ℕ) → HasNumber (judged s len room)
+  -- of the judge
+  pub answers : (s : List ℕ) (len room : ℕ) → HasNumber (answer s len room)

@@ -1,0 +1,52 @@
+// The sparse format as definitions and theorems, and the types that the code over it shares: the file header, the
+// chunks, what an accepted image gives each byte, and the judge's answer. No code.
+
+// The fields of the file header that the rest of an image is read by: block size, total blocks,
+// total chunks, the stated checksum, where the first chunk begins, and the chunk header size.
+pub struct Header {
+    pub block: u32,
+    pub total: u32,
+    pub chunks: u32,
+    pub checksum: u32,
+    pub start: u32,
+    pub head: u32,
+}
+
+// Where the next chunk is read: its offset in the image, and its first block.
+pub struct Cursor {
+    pub at: usize,
+    pub first: u32,
+}
+
+// What a chunk's type says of it.
+pub enum Kind {
+    Raw,
+    Fill,
+    DontCare,
+    Unknown,
+}
+
+// A chunk: its kind, how many blocks it spans, and where its data begin in the image.
+pub struct Chunk {
+    pub kind: Kind,
+    pub blocks: u32,
+    pub body: usize,
+}
+
+// A refusal: its number, and its place in the image.
+pub struct Refusal {
+    pub number: u32,
+    pub place: u64,
+}
+
+// What the chunk reader answers.
+pub enum ChunkRead {
+    Chunk(Chunk, Cursor),
+    Refused(Refusal),
+}
+
+// What the judge answers: accepted with blocks written and blocks skipped, or refused.
+pub enum Verdict {
+    Accepted(u32, u32),
+    Refused(Refusal),
+}

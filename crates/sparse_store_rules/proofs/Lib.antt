@@ -1,0 +1,10 @@
+pub mod Over
+pub mod Torn
+pub mod Restart
+pub mod Cut
+pub mod Whole
+pub mod Blocks
+pub mod Storing
+pub mod Orders
+pub mod Lending
+pub mod CutChunks

@@ -1,0 +1,9 @@
+pub mod Runs
+pub mod KindSteps
+pub mod KindCells
+pub mod Chunks
+pub mod ReadBack
+pub mod FlatImage
+pub mod ImageBytes
+pub mod Encoded
+pub mod Theorems

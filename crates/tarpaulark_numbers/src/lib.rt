@@ -1,0 +1,206 @@
+// The answers as numbers: 0 or the refusal's number, and an array with place and counts.
+use boot_rules::Layout;
+use boot_rules::Located;
+use boot_rules::Section;
+use slot_bytes::flag_byte;
+use sparse_rules::Chunk;
+use sparse_rules::ChunkRead;
+use sparse_rules::Cursor;
+use sparse_rules::Header;
+use sparse_rules::Kind;
+use sparse_rules::Verdict;
+use sparse_store_rules::Stored;
+use sparse_write_rules::Outcome;
+ghost use mathlib.Core.Path.{_≡_};
+ghost use mathlib.Core.List.{_∷_};
+ghost use Rattle.rules.specs.Answer.{numberOf};
+ghost use Rattle.boot_rules.specs.Sections.{sectionsIn};
+ghost use Rattle.boot_rules.specs.Tests as boot;
+ghost use Rattle.sparse_rules.specs.Chunks.{chunk};
+ghost use Rattle.sparse_rules.specs.Answers.{answerOf, readingOf};
+ghost use Rattle.sparse_store_rules.specs.Answers.{cutAnswerOf};
+ghost use Rattle.sparse_write_rules.specs.Write as writer;
+ghost use Rattle.tarpaulark_numbers.specs.Numbers.{verdictNumbers, countNumbers, kindNumber, chunkNumbers, headerNumbers, sectionOf, sectionNumbers, layoutNumbers};
+
+// The number that a verdict returns.
+pub fn verdict_number(v: Verdict) -> u32
+    ensures { λ r. ⌜ r ≡ numberOf (answerOf v) ⌝ }
+{
+    match v {
+        Verdict::Accepted(_, _) => 0,
+        Verdict::Refused(f) => f.number,
+    }
+}
+
+// A verdict's place, blocks written and blocks skipped.
+pub fn verdict_answer(v: Verdict) -> [u64; 3]
+    ensures { λ r. ⌜ r ≡ verdictNumbers (answerOf v) ⌝ }
+{
+    match v {
+        Verdict::Accepted(written, skipped) => [0, written as u64, skipped as u64],
+        Verdict::Refused(f) => [f.place, 0, 0],
+    }
+}
+
+// A header's fields.
+pub fn header_answer(h: Header) -> [u64; 6]
+    ensures { λ r. ⌜ r ≡ headerNumbers h ⌝ }
+{
+    [
+        h.block as u64,
+        h.total as u64,
+        h.chunks as u64,
+        h.checksum as u64,
+        h.start as u64,
+        h.head as u64,
+    ]
+}
+
+// A kind as a number.
+fn kind_number(k: Kind) -> u64
+    ensures { λ r. ⌜ r ≡ kindNumber k ⌝ }
+{
+    match k {
+        Kind::Raw => 0,
+        Kind::Fill => 1,
+        Kind::DontCare => 2,
+        Kind::Unknown => 3,
+    }
+}
+
+// The number that the chunk reader returns.
+pub fn chunk_number(r: ChunkRead) -> u32
+    ensures { λ n. ⌜ n ≡ numberOf (readingOf r) ⌝ }
+{
+    match r {
+        ChunkRead::Chunk(_, _) => 0,
+        ChunkRead::Refused(f) => f.number,
+    }
+}
+
+// A chunk's kind, blocks and data, and the next chunk's offset and first block, after place 0.
+fn read_answer(k: Chunk, next: Cursor) -> [u64; 6]
+    ensures { λ a. ⌜ a ≡ chunkNumbers (chunk k next) ⌝ }
+{
+    let kind = k.kind;
+    let number = kind_number(kind);
+    [
+        0,
+        number,
+        k.blocks as u64,
+        k.body as u64,
+        next.at as u64,
+        next.first as u64,
+    ]
+}
+
+// What the chunk reader answers: for a refusal its place, and else 0.
+pub fn chunk_answer(r: ChunkRead) -> [u64; 6]
+    ensures { λ a. ⌜ a ≡ chunkNumbers (readingOf r) ⌝ }
+{
+    match r {
+        ChunkRead::Chunk(k, next) => read_answer(k, next),
+        ChunkRead::Refused(f) => [f.place, 0, 0, 0, 0, 0],
+    }
+}
+
+// The number that the cut form returns.
+pub fn cut_number(s: Stored) -> u32
+    ensures { λ r. ⌜ r ≡ numberOf (cutAnswerOf s) ⌝ }
+{
+    match s {
+        Stored::Blocks(_) => 0,
+        Stored::Refused(f) => f.number,
+    }
+}
+
+// The cut form's place and blocks stored.
+pub fn cut_answer(s: Stored) -> [u64; 2]
+    ensures { λ r. ⌜ r ≡ countNumbers (cutAnswerOf s) ⌝ }
+{
+    match s {
+        Stored::Blocks(n) => [0, n],
+        Stored::Refused(f) => [f.place, 0],
+    }
+}
+
+// The number that the writer returns.
+pub fn written_number(w: Outcome) -> u32
+    ensures { λ r. ⌜ r ≡ numberOf (writer.answerOf w) ⌝ }
+{
+    match w {
+        Outcome::Written(_) => 0,
+        Outcome::Refused(f) => f.number,
+    }
+}
+
+// The writer's place and the image's length.
+pub fn written_answer(w: Outcome) -> [u64; 2]
+    ensures { λ r. ⌜ r ≡ countNumbers (writer.answerOf w) ⌝ }
+{
+    match w {
+        Outcome::Written(n) => [0, n as u64],
+        Outcome::Refused(f) => [f.place, 0],
+    }
+}
+
+// The number that the finder of sections returns.
+pub fn located_number(a: Located) -> u32
+    ensures { λ r. ⌜ r ≡ numberOf (boot.answerOf a) ⌝ }
+{
+    match a {
+        Located::Found(_) => 0,
+        Located::Refused(n) => n,
+    }
+}
+
+// A section: whether it is present, its position and its size.
+fn section_answer(s: Section) -> [u64; 3]
+    ensures { λ r. ⌜ r ≡ sectionOf s ⌝ }
+{
+    let present = flag_byte(s.present);
+    [present as u64, s.position, s.size as u64]
+}
+
+// A layout: its version, then its six sections.
+fn layout_answer(l: Layout) -> [u64; 19]
+    ensures { λ r. ⌜ r ≡ l .version ∷ sectionNumbers (sectionsIn l) ⌝ }
+{
+    let a = section_answer(l.kernel);
+    let b = section_answer(l.ramdisk);
+    let c = section_answer(l.second);
+    let d = section_answer(l.recovery);
+    let e = section_answer(l.dtb);
+    let f = section_answer(l.signature);
+    [
+        l.version as u64,
+        a[0],
+        a[1],
+        a[2],
+        b[0],
+        b[1],
+        b[2],
+        c[0],
+        c[1],
+        c[2],
+        d[0],
+        d[1],
+        d[2],
+        e[0],
+        e[1],
+        e[2],
+        f[0],
+        f[1],
+        f[2],
+    ]
+}
+
+// What the finder of sections answers: all 0 for a refusal.
+pub fn located_answer(a: Located) -> [u64; 19]
+    ensures { λ r. ⌜ r ≡ layoutNumbers (boot.answerOf a) ⌝ }
+{
+    match a {
+        Located::Found(l) => layout_answer(l),
+        Located::Refused(_) => [0; 19],
+    }
+}

@@ -1,0 +1,44 @@
+// Texts put into a lent buffer: bytes, and numbers by their decimal digits, from a place on.
+//
+// Nothing is stored past the buffer's end; what would stand there is counted all the same, so that the answer says
+// how long a text is whatever room it had.
+ghost use mathlib.Core.List.{[], _∷_};
+ghost use Rattle.text.specs.Words.{decimal, labelled, line};
+ghost use Rattle.text.specs.Put.{Put};
+
+// Puts bytes, and answers the place after them.
+pub fn put(out: &mut [u8], at: usize, bytes: &[u8]) -> usize
+    ensures { λ r. ⌜ Put (now (out .entry)) at (now (bytes .entry)) (now (out .exit)) r ⌝ }
+{
+    fields::copy(out, at, bytes);
+    if usize::MAX - at < bytes.len() {
+        return usize::MAX;
+    }
+    at + bytes.len()
+}
+
+// Puts a number's decimal digits, and answers the place after them.
+pub fn put_number(out: &mut [u8], at: usize, n: u64) -> usize
+    ensures { λ r. ⌜ Put (now (out .entry)) at (decimal n) (now (out .exit)) r ⌝ }
+{
+    let mut digits = [0u8; 20];
+    let k = io::decimal(n, &mut digits);
+    put(out, at, &digits[..k])
+}
+
+// Puts a word and a number after it, and answers the place after both.
+pub fn put_labelled(out: &mut [u8], at: usize, word: &[u8], n: u64) -> usize
+    ensures { λ r. ⌜ Put (now (out .entry)) at (labelled (now (word .entry)) n) (now (out .exit)) r ⌝ }
+{
+    let next = put(out, at, word);
+    put_number(out, next, n)
+}
+
+// Puts two words with a number after each and a newline, and answers the place after the line.
+pub fn put_pair(out: &mut [u8], at: usize, word: &[u8], n: u64, second: &[u8], m: u64) -> usize
+    ensures { λ r. ⌜ Put (now (out .entry)) at (line (labelled (now (word .entry)) n ∷ labelled (now (second .entry)) m ∷ [])) (now (out .exit)) r ⌝ }
+{
+    let next = put_labelled(out, at, word, n);
+    let end = put_labelled(out, next, second, m);
+    put(out, end, b"\n")
+}
