@@ -4,7 +4,9 @@
 
 Makes a scratch partition and an update, stores the update through the tool with
 power cut after some blocks and the next block torn, starts over, and compares
-every byte.  Ends with 1 if anything is not as it should be.
+every byte.  Then it prints the distance record as it stands on the partition
+before and after, and a map of the partition at each stop.  Ends with 1 if
+anything is not as it should be.
 """
 
 import os
@@ -12,6 +14,8 @@ import random
 import subprocess
 import sys
 import tempfile
+from pathlib import Path
+from typing import List, Tuple, Union
 
 ROOT = os.path.dirname(os.path.dirname(os.path.abspath(__file__)))
 sys.path.insert(0, os.path.join(ROOT, "tests", "reference"))
@@ -23,6 +27,7 @@ RECORD = b"distance 140.25 m, count 88134".ljust(2 * BLOCK, b".")
 RECORD_AT = 5
 BLOCKS = 16
 STORED = (0, 1, 2, 3, 4, 7, 8, 9, 10, 11)
+WRITTEN, TORN, KEPT, TO_COME = "#T.-"
 
 
 def original() -> bytes:
@@ -45,19 +50,6 @@ def update() -> bytes:
     ])
 
 
-def read(path: str) -> bytes:
-    """What a file holds."""
-    with open(path, "rb") as file:
-        return file.read()
-
-
-def save(path: str, data: bytes) -> str:
-    """Makes a file; its path."""
-    with open(path, "wb") as file:
-        file.write(data)
-    return path
-
-
 def is_kept(before: bytes, after: bytes) -> bool:
     """Whether the length and every byte outside the stored blocks are as they were."""
     kept = [i for i in range(BLOCKS) if i not in STORED]
@@ -72,46 +64,87 @@ def check(holds: bool, text: str) -> None:
         sys.exit(1)
 
 
-def run(tool: str, *words: str) -> subprocess.CompletedProcess:
+def blocks_of(data: bytes) -> List[bytes]:
+    """The partition's blocks."""
+    return [data[at:at + BLOCK] for at in range(0, len(data), BLOCK)]
+
+
+def map_of(before: bytes, now: bytes, new: bytes) -> str:
+    """A sign for each block of the partition as it is now: kept where the update skips it, else written
+    where it holds what the update gives it, still to come where it holds what it did before, else torn."""
+    signs = []
+    for i, (old, found, given) in enumerate(zip(blocks_of(before), blocks_of(now), blocks_of(new))):
+        if i not in STORED:
+            signs.append(KEPT if found == old else TORN)
+        else:
+            signs.append(WRITTEN if found == given else TO_COME if found == old else TORN)
+    return "".join(signs)
+
+
+def record_on(partition: bytes) -> str:
+    """The distance record as it stands on a partition."""
+    data = partition[RECORD_AT * BLOCK:(RECORD_AT + 2) * BLOCK]
+    return repr(data.rstrip(b".").decode("latin-1")) + f" and {len(data) - len(data.rstrip(b'.'))} dots"
+
+
+def run(tool: str, *words: Union[str, Path]) -> subprocess.CompletedProcess:
     """Runs the tool and prints what it answers."""
     print("$ tarpaulark " + " ".join(os.path.basename(word) for word in words))
     done = subprocess.run([tool, *words], capture_output=True, text=True, check=False)
-    print("   " + (done.stdout + done.stderr).strip().replace("\n", ": "))
+    print("   " + (done.stdout + done.stderr).rstrip().replace("\n", "\n   "))
     return done
 
 
-def cut(tool: str, image: str, partition: str, before: bytes, limit: int) -> None:
-    """Stores so many blocks, then leaves junk in the one that would be next."""
+def cut(tool: str, image: Path, partition: Path, before: bytes, limit: int) -> bytes:
+    """Stores so many blocks, then leaves junk in the one that would be next; what the partition holds."""
     run(tool, "store", image, partition, "--limit", str(limit))
     torn = STORED[limit]
-    with open(partition, "r+b") as file:
+    with partition.open("r+b") as file:
         file.seek(torn * BLOCK)
         file.write(random.Random(limit).randbytes(BLOCK))
     print(f"   power fails while block {torn} is stored: it holds junk")
-    check(is_kept(before, read(partition)), "every byte that the update skips is as it was")
+    check(is_kept(before, partition.read_bytes()), "every byte that the update skips is as it was")
+    return partition.read_bytes()
 
 
-def demo(tool: str, folder: str) -> None:
+def show(before: bytes, stops: List[Tuple[str, bytes]]) -> None:
+    """The record before and after, and the map of the partition at each stop."""
+    after = stops[-1][1]
+    print("\nThe distance record, as it stands in blocks 5 and 6 of the partition")
+    print(f"   before   {record_on(before)}")
+    print(f"   after    {record_on(after)}")
+    print("\nThe partition, block by block")
+    print(f"   {WRITTEN} written   {TORN} torn   {KEPT} kept by the update   {TO_COME} still to be written")
+    for name, now in [("before", before)] + stops:
+        print(f"   {name:<16}{map_of(before, now, after)}")
+
+
+def demo(tool: str, folder: Path) -> None:
     """The whole story."""
     before = original()
-    image = save(os.path.join(folder, "update.simg"), update())
-    partition = save(os.path.join(folder, "data.img"), before)
-    whole = save(os.path.join(folder, "uncut.img"), before)
+    image, broken = folder / "update.simg", folder / "damaged.simg"
+    partition, whole = folder / "data.img", folder / "uncut.img"
+    image.write_bytes(update())
+    partition.write_bytes(before)
+    whole.write_bytes(before)
     print(f"A partition of {BLOCKS} blocks; blocks 5 and 6 hold: {RECORD.rstrip(b'.').decode()}\n")
-    damaged = bytearray(read(image))
+    damaged = bytearray(image.read_bytes())
     damaged[100] ^= 1
-    broken = save(os.path.join(folder, "damaged.simg"), bytes(damaged))
+    broken.write_bytes(damaged)
     check(run(tool, "store", broken, partition).returncode == 1, "a damaged update is refused")
-    check(read(partition) == before, "and changes no byte")
-    for limit in (4, 7):
-        cut(tool, image, partition, before, limit)
+    check(partition.read_bytes() == before, "and changes no byte")
+    run(tool, "map", image)
+    first = cut(tool, image, partition, before, 4)
+    second = cut(tool, image, partition, before, 7)
     print("The update starts over and runs to its end.")
     check(run(tool, "store", image, partition).returncode == 0, "the update is stored")
-    check(is_kept(before, read(partition)), "every byte that the update skips is as it was")
-    check(RECORD in read(partition), "the distance record is whole")
+    after = partition.read_bytes()
+    check(is_kept(before, after), "every byte that the update skips is as it was")
+    check(RECORD in after, "the distance record is whole")
     print("The same update on a copy that never lost power:")
     run(tool, "store", image, whole)
-    check(read(whole) == read(partition), "both partitions are the same, byte for byte")
+    check(whole.read_bytes() == after, "both partitions are the same, byte for byte")
+    show(before, [("first cut", first), ("second cut", second), ("after", after)])
 
 
 def main() -> int:
@@ -120,7 +153,7 @@ def main() -> int:
         print(__doc__, file=sys.stderr)
         return 2
     with tempfile.TemporaryDirectory() as folder:
-        demo(os.path.abspath(sys.argv[1]), folder)
+        demo(os.path.abspath(sys.argv[1]), Path(folder))
     return 0
 
 

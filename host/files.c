@@ -1,149 +1,154 @@
-#define _GNU_SOURCE
 #include "files.h"
+
+#include "answer.h"
 
 #include <errno.h>
 #include <fcntl.h>
-#include <limits.h>
 #include <linux/fs.h>
-#include <signal.h>
-#include <stdio.h>
-#include <stdlib.h>
-#include <string.h>
+#include <sys/file.h>
 #include <sys/ioctl.h>
 #include <sys/mman.h>
-#include <sys/stat.h>
 #include <unistd.h>
 
+static const char busy[] = "is busy: another program works on it; run the same command again when that has ended";
 static uint8_t no_bytes[1];
-static char new_path[PATH_MAX];
 
-void drop_new(void)
+static void expect_kind(const char *path, const struct stat *status)
 {
-    if (new_path[0] != '\0')
-        unlink(new_path);
-    new_path[0] = '\0';
+    if (!S_ISREG(status->st_mode) && !S_ISBLK(status->st_mode))
+        misused(path, "is no file and no block device; name one");
 }
 
-void give_up(const char *path, const char *what)
+/* A pipe or another device is refused before it is opened, and does not hold up the opening of what may have
+   taken its place. A block device that is mounted or in use elsewhere cannot be opened by O_EXCL. */
+static int open_kind(const char *path, enum use use, struct stat *status)
 {
-    int error = errno;
+    int flags = O_CLOEXEC | O_NOCTTY | O_NONBLOCK | (use == CHANGE_PARTITION ? O_RDWR : O_RDONLY);
+    int file;
 
-    drop_new();
-    fprintf(stderr, "tarpaulark: %s: %s", path, what);
-    fprintf(stderr, error != 0 ? " (%s)\n" : "\n", strerror(error));
-    exit(BAD_USE);
+    if (stat(path, status) != 0)
+        failed(path, "cannot be opened; see that it is there and that you may use it", errno);
+    expect_kind(path, status);
+    if (S_ISBLK(status->st_mode) && use != READ_IMAGE)
+        flags |= O_EXCL;
+    file = open(path, flags);
+    if (file < 0 && errno == EBUSY)
+        failed(path, "is busy: it is mounted, or another program works on it; unmount it first", 0);
+    if (file < 0 || fstat(file, status) != 0)
+        failed(path, "cannot be opened; see that it is there and that you may use it", errno);
+    expect_kind(path, status);
+    return file;
 }
 
-/* The disk failed, or a file was cut short, under the mapping. */
-static void on_lost_page(int number)
+bool is_same(const struct stat *one, const struct stat *other)
 {
-    static const char text[] =
-        "tarpaulark: a file could not be read or written to its end;"
-        " see to the disk, and run the same command again\n";
-    ssize_t said = write(STDERR_FILENO, text, sizeof text - 1);
-
-    (void)number;
-    (void)said;
-    drop_new();
-    _exit(BAD_USE);
+    if (S_ISBLK(one->st_mode) || S_ISBLK(other->st_mode))
+        return S_ISBLK(one->st_mode) && S_ISBLK(other->st_mode) && one->st_rdev == other->st_rdev;
+    return one->st_dev == other->st_dev && one->st_ino == other->st_ino;
 }
 
-static uint8_t *map(const char *path, int file, size_t length, int writing)
+/* A descriptor that is the file itself is closed, so that these words do not land there. */
+void expect_apart(const char *path, const struct stat *status)
+{
+    struct stat out;
+    bool apart = true;
+
+    for (int i = STDOUT_FILENO; i <= STDERR_FILENO; i++) {
+        if (fstat(i, &out) != 0 || !is_same(&out, status))
+            continue;
+        close(i);
+        apart = false;
+    }
+    if (!apart)
+        misused(path, "is also where the answer would be printed; print it elsewhere");
+}
+
+struct mapped open_file(const char *path, enum use use)
+{
+    struct mapped file = {.path = path, .use = use, .at = no_bytes};
+
+    file.file = open_kind(path, use, &file.before);
+    expect_apart(path, &file.before);
+    return file;
+}
+
+void lock_file(const char *path, int file, bool alone)
+{
+    if (flock(file, (alone ? LOCK_EX : LOCK_SH) | LOCK_NB) == 0)
+        return;
+    if (errno == EWOULDBLOCK)
+        failed(path, busy, 0);
+    failed(path, "cannot be locked; see that its file system has locks", errno);
+}
+
+static uint64_t length_of(const struct mapped *file)
+{
+    uint64_t length = 0;
+    uint8_t byte;
+
+    if (S_ISREG(file->before.st_mode) && file->before.st_size == 0 && pread(file->file, &byte, 1, 0) > 0)
+        misused(file->path, "does not tell its length; copy it to a file on a disk first");
+    if (S_ISREG(file->before.st_mode))
+        return (uint64_t)file->before.st_size;
+    if (ioctl(file->file, BLKGETSIZE64, &length) != 0)
+        failed(file->path, "does not tell its size; see that it is a whole block device", errno);
+    return length;
+}
+
+uint8_t *map_bytes(const char *path, int file, size_t length, bool writing)
 {
     void *at;
 
-    signal(SIGBUS, on_lost_page);
     if (length == 0)
         return no_bytes;
     at = mmap(NULL, length, writing ? PROT_READ | PROT_WRITE : PROT_READ, MAP_SHARED, file, 0);
     if (at == MAP_FAILED)
-        give_up(path, "cannot be mapped; see that there is memory for it");
+        failed(path, "cannot be mapped; see that there is memory for it", errno);
     return at;
 }
 
-static uint64_t length_of(const char *path, int file, const struct stat *status)
+void hold_file(struct mapped *file)
 {
-    uint64_t length = 0;
-
-    if (S_ISREG(status->st_mode))
-        return (uint64_t)status->st_size;
-    if (!S_ISBLK(status->st_mode)) {
-        errno = 0;
-        give_up(path, "is no file and no block device; name one");
-    }
-    if (ioctl(file, BLKGETSIZE64, &length) != 0)
-        give_up(path, "does not tell its size; see that it is a whole block device");
-    return length;
+    lock_file(file->path, file->file, file->use != READ_IMAGE);
+    if (fstat(file->file, &file->before) != 0)
+        failed(file->path, "cannot be read; see to the disk", errno);
+    file->length = length_of(file);
+    file->at = map_bytes(file->path, file->file, file->length, file->use == CHANGE_PARTITION);
 }
 
-struct mapped map_file(const char *path, int writing)
+struct mapped read_image(const char *path)
 {
-    struct mapped file = {.path = path};
-    struct stat status;
+    struct mapped file = open_file(path, READ_IMAGE);
 
-    file.file = open(path, (writing ? O_RDWR : O_RDONLY) | O_CLOEXEC);
-    if (file.file < 0 || fstat(file.file, &status) != 0)
-        give_up(path, "cannot be opened; see that it is there and that you may use it");
-    file.device = S_ISBLK(status.st_mode) ? status.st_rdev : status.st_dev;
-    file.node = S_ISBLK(status.st_mode) ? 0 : status.st_ino;
-    file.length = length_of(path, file.file, &status);
-    file.at = map(path, file.file, file.length, writing);
+    hold_file(&file);
     return file;
 }
 
-void sync_mapped(const struct mapped *file)
+static bool is_same_time(struct timespec one, struct timespec other)
 {
-    if (file->length != 0 && msync(file->at, file->length, MS_SYNC) != 0)
-        give_up(file->path, "may not be on the disk; see to the disk, and run the same command again");
-    if (fsync(file->file) != 0)
-        give_up(file->path, "may not be on the disk; see to the disk, and run the same command again");
+    return one.tv_sec == other.tv_sec && one.tv_nsec == other.tv_nsec;
 }
 
-struct mapped begin_new(const char *path, uint64_t length)
+void expect_unchanged(const struct mapped *file, const char *what)
 {
-    struct mapped file = {.path = path, .length = length};
-    mode_t mask = umask(0), mode = 0666 & ~mask;
-    struct stat old;
+    struct stat now;
 
-    umask(mask);
-    if (stat(path, &old) == 0)
-        mode = old.st_mode & 0777;
-    errno = 0;
-    if (snprintf(new_path, sizeof new_path, "%s.XXXXXX", path) >= (int)sizeof new_path) {
-        new_path[0] = '\0';
-        give_up(path, "is too long a name");
-    }
-    file.file = mkostemp(new_path, O_CLOEXEC);
-    if (file.file < 0) {
-        new_path[0] = '\0';
-        give_up(path, "cannot be made there; name a folder that is there and that you may write to");
-    }
-    if (fchmod(file.file, mode) != 0 || ftruncate(file.file, (off_t)length) != 0)
-        give_up(path, "cannot be made; see that the disk has room");
-    file.at = map(path, file.file, file.length, 1);
-    return file;
+    if (fstat(file->file, &now) != 0)
+        failed(file->path, "cannot be read; see to the disk", errno);
+    if (now.st_size != file->before.st_size || !is_same_time(now.st_mtim, file->before.st_mtim)
+        || !is_same_time(now.st_ctim, file->before.st_ctim))
+        failed(file->path, what, 0);
 }
 
-static void sync_folder(const char *path)
+void expect_in_place(const struct mapped *file)
 {
-    char folder[PATH_MAX];
-    const char *last = strrchr(path, '/');
-    int file;
+    struct stat now;
 
-    snprintf(folder, sizeof folder, "%.*s", last == NULL ? 1 : (int)(last - path) + 1, last == NULL ? "." : path);
-    file = open(folder, O_RDONLY | O_DIRECTORY | O_CLOEXEC);
-    if (file < 0 || fsync(file) != 0)
-        give_up(path, "may not be on the disk; see to the disk, and run the same command again");
-    close(file);
+    if (stat(file->path, &now) != 0 || !is_same(&now, &file->before) || now.st_size != file->before.st_size)
+        failed(file->path, "was replaced or cut while it was stored on; store the image again", 0);
 }
 
-void finish_new(const struct mapped *file, size_t length)
+bool is_synced(const struct mapped *file)
 {
-    sync_mapped(file);
-    if (ftruncate(file->file, (off_t)length) != 0 || fsync(file->file) != 0)
-        give_up(file->path, "cannot be made; see that the disk has room");
-    if (rename(new_path, file->path) != 0)
-        give_up(file->path, "cannot be replaced; see that it is no folder and that you may write there");
-    new_path[0] = '\0';
-    sync_folder(file->path);
+    return (file->length == 0 || msync(file->at, file->length, MS_SYNC) == 0) && fsync(file->file) == 0;
 }

@@ -1,12 +1,15 @@
-/* Files: mapped for the library, or made anew beside their place and renamed. */
+/* Files that stand already: opened, held against others, mapped for the library. */
 #ifndef FILES_H
 #define FILES_H
 
+#include <stdbool.h>
 #include <stddef.h>
 #include <stdint.h>
-#include <sys/types.h>
+#include <sys/stat.h>
 
-enum { BAD_USE = 2 };
+/* What a file is opened for: an image is read, and others may read it too; a partition is looked at or
+   changed, by one program at a time. */
+enum use { READ_IMAGE, LOOK_AT_PARTITION, CHANGE_PARTITION };
 
 /* A file in memory; `at` is never null, also where `length` is 0. */
 struct mapped {
@@ -14,22 +17,38 @@ struct mapped {
     int file;
     uint8_t *at;
     size_t length;
-    dev_t device;
-    ino_t node;
+    enum use use;
+    struct stat before;
 };
 
-/* Says what went wrong and what to do about it, and ends with BAD_USE. */
-void give_up(const char *path, const char *what) __attribute__((noreturn));
+/* Opens a regular file or a block device, apart from what is printed; anything else is bad usage. */
+struct mapped open_file(const char *path, enum use use);
 
-/* A file or block device to read, or with `writing` to change in place. */
-struct mapped map_file(const char *path, int writing);
+/* Whether both are one file, by whatever names. */
+bool is_same(const struct stat *one, const struct stat *other);
 
-/* Puts what was changed in place on the disk. */
-void sync_mapped(const struct mapped *file);
+/* A file that the answer would be printed to is bad usage. */
+void expect_apart(const char *path, const struct stat *status);
 
-/* A new file of so many bytes, which takes the place of `path` only by finish_new. */
-struct mapped begin_new(const char *path, uint64_t length);
-void finish_new(const struct mapped *file, size_t length);
-void drop_new(void);
+/* Locks an open file until the program ends, and maps it. */
+void hold_file(struct mapped *file);
+
+/* An image to read, opened and held. */
+struct mapped read_image(const char *path);
+
+/* Fails where a file was changed since it was held. */
+void expect_unchanged(const struct mapped *file, const char *what);
+
+/* Fails where the path of a file that was changed leads to another by now, or the file has another length. */
+void expect_in_place(const struct mapped *file);
+
+/* Maps so many bytes of an open file; never null. */
+uint8_t *map_bytes(const char *path, int file, size_t length, bool writing);
+
+/* Locks an open file; fails where another program holds it. */
+void lock_file(const char *path, int file, bool alone);
+
+/* Puts what was changed in memory on the disk; where that fails, errno says why. */
+bool is_synced(const struct mapped *file);
 
 #endif

@@ -1,270 +1,134 @@
 /* The host tool: the library's functions on files. */
-#include "files.h"
-#include "refusals.h"
+#include "commands.h"
+#include "descriptors.h"
 #include "tarpaulark.h"
+#include "words.h"
 
-#include <errno.h>
-#include <inttypes.h>
+#include <setjmp.h>
+#include <signal.h>
 #include <stdio.h>
 #include <stdlib.h>
 #include <string.h>
 
-static const char usage[] =
-    "usage: tarpaulark judge IMAGE PARTITION-LENGTH\n"
-    "       tarpaulark store IMAGE PARTITION [--limit BLOCKS]\n"
-    "       tarpaulark write FLAT BLOCK-SIZE OUT\n"
-    "       tarpaulark sections BOOT-IMAGE\n"
-    "       tarpaulark slots RECORD fresh COUNT\n"
-    "       tarpaulark slots RECORD start | confirm | show\n"
-    "       tarpaulark slots RECORD set-active | modified SLOT\n"
-    "\n"
-    "judge     says whether a sparse image is accepted for a partition of so many bytes\n"
-    "store     stores it on a partition, a file or a block device whose length stays;\n"
-    "          with a limit only its first blocks to be stored, as if power were cut\n"
-    "write     makes a sparse image from flat bytes\n"
-    "sections  prints the version of a boot image, then name, position and size of each\n"
-    "          section that it has\n"
-    "slots     works on a slot record of 17 bytes; SLOT is a letter from a on\n"
-    "\n"
-    "Results are on the disk before they are printed. Exit status: 0 done; 1 refused,\n"
-    "with `refused NUMBER at PLACE` and its meaning on standard error; 2 bad usage, or a\n"
-    "file that cannot be used.\n";
-
-static int misused(const char *what)
-{
-    fprintf(stderr, "tarpaulark: %s; see tarpaulark --help\n", what);
-    return BAD_USE;
-}
-
-/* A decimal number up to `most`. */
-static int as_number(const char *text, uint64_t most, uint64_t *number)
-{
-    char *end;
-
-    errno = 0;
-    *number = strtoull(text, &end, 10);
-    return text[0] >= '0' && text[0] <= '9' && *end == '\0' && errno == 0 && *number <= most;
-}
-
-/* A slot's letter, a for 0. Letters past d are slots that no record has. */
-static int as_slot(const char *text, uint8_t *slot)
-{
-    *slot = (uint8_t)(text[0] - 'a');
-    return text[0] >= 'a' && text[0] <= 'z' && text[1] == '\0';
-}
-
-static int print_counts(uint32_t number, const uint64_t answer[TARPAULARK_JUDGE_ANSWER])
-{
-    if (number != 0)
-        return refuse(number, answer[0]);
-    printf("ok written %" PRIu64 " skipped %" PRIu64 "\n", answer[1], answer[2]);
-    return 0;
-}
-
-static int judge(char **words)
-{
-    uint64_t answer[TARPAULARK_JUDGE_ANSWER], length;
-    struct mapped image;
-
-    if (!as_number(words[1], UINT64_MAX, &length))
-        return misused("PARTITION-LENGTH is a number of bytes");
-    image = map_file(words[0], 0);
-    return print_counts(tarpaulark_judge(image.at, image.length, length, answer), answer);
-}
-
-static int store_all(const struct mapped *image, const struct mapped *partition)
-{
-    uint64_t answer[TARPAULARK_STORE_ANSWER];
-    uint32_t number =
-        tarpaulark_store(image->at, image->length, partition->at, partition->length, answer);
-
-    if (number == 0)
-        sync_mapped(partition);
-    return print_counts(number, answer);
-}
-
-static int store_some(const struct mapped *image, const struct mapped *partition, uint64_t limit)
-{
-    uint64_t answer[TARPAULARK_STORE_LIMITED_ANSWER];
-    uint32_t number = tarpaulark_store_limited(
-        image->at, image->length, partition->at, partition->length, limit, answer);
-
-    if (number != 0)
-        return refuse(number, answer[0]);
-    sync_mapped(partition);
-    printf("ok stored %" PRIu64 "\n", answer[1]);
-    return 0;
-}
-
-static int store(char **words)
-{
-    struct mapped image, partition;
-    uint64_t limit = 0;
-
-    if (words[2] != NULL && strcmp(words[2], "--limit") != 0)
-        return misused("after PARTITION only --limit BLOCKS can stand");
-    if (words[2] != NULL && (words[3] == NULL || !as_number(words[3], UINT64_MAX, &limit)))
-        return misused("--limit takes a number of blocks");
-    image = map_file(words[0], 0);
-    partition = map_file(words[1], 1);
-    if (image.device == partition.device && image.node == partition.node)
-        return misused("IMAGE and PARTITION are one file: name two");
-    return words[2] == NULL ? store_all(&image, &partition) : store_some(&image, &partition, limit);
-}
-
-static int write_image(char **words)
-{
-    uint64_t answer[TARPAULARK_WRITE_ANSWER], block, room = 0;
-    struct mapped flat, out;
-    uint32_t number;
-
-    if (!as_number(words[1], UINT32_MAX, &block))
-        return misused("BLOCK-SIZE is a number of bytes up to 4294967295");
-    flat = map_file(words[0], 0);
-    if (block >= 4 && flat.length <= 2147483648u)
-        room = TARPAULARK_WRITE_BOUND(flat.length, block);
-    out = begin_new(words[2], room);
-    number = tarpaulark_write(flat.at, flat.length, (uint32_t)block, out.at, out.length, answer);
-    if (number != 0) {
-        drop_new();
-        return refuse(number, answer[0]);
-    }
-    finish_new(&out, answer[1]);
-    printf("ok bytes %" PRIu64 "\n", answer[1]);
-    return 0;
-}
-
-static int sections(char **words)
-{
-    static const char *const names[] = {"kernel", "ramdisk", "second", "recovery", "dtb", "signature"};
-    uint64_t answer[TARPAULARK_LOCATE_ANSWER];
-    struct mapped image = map_file(words[0], 0);
-    uint32_t number = tarpaulark_locate(image.at, image.length, answer);
-
-    if (number != 0)
-        return refuse(number, 0);
-    printf("version %" PRIu64 "\n", answer[0]);
-    for (size_t i = 0; i < sizeof names / sizeof names[0]; i++) {
-        const uint64_t *section = answer + 1 + 3 * i;
-
-        if (section[0] != 0)
-            printf("%s %" PRIu64 " %" PRIu64 "\n", names[i], section[1], section[2]);
-    }
-    return 0;
-}
-
-static int keep_record(const char *path, uint32_t number, const uint8_t *record, const uint64_t *answer)
-{
-    struct mapped file;
-
-    if (number != 0)
-        return refuse(number, 0);
-    file = begin_new(path, TARPAULARK_RECORD);
-    memcpy(file.at, record, TARPAULARK_RECORD);
-    finish_new(&file, TARPAULARK_RECORD);
-    if (answer[0] == TARPAULARK_STARTS)
-        printf("starts %c\n", (char)('a' + answer[1]));
-    else
-        puts(answer[0] == TARPAULARK_RECOVERY ? "recovery" : "ok");
-    return 0;
-}
-
-static int show_record(const uint8_t *record)
-{
-    uint8_t copy[TARPAULARK_RECORD];
-    uint64_t answer[TARPAULARK_SLOTS_ANSWER];
-
-    /* No record has slot 255: a valid one is refused with 32. */
-    memcpy(copy, record, sizeof copy);
-    if (tarpaulark_slots_set_active(copy, 255, answer) != 32)
-        return refuse(31, 0);
-    printf("current %c\n", (char)('a' + record[16]));
-    for (int i = 0; i < 4; i++) {
-        const uint8_t *slot = record + 4 * i;
-
-        if (slot[0] != 0)
-            printf("%c tries %d%s%s\n", 'a' + i, slot[3],
-                   slot[1] != 0 ? " unbootable" : "", slot[2] != 0 ? " successful" : "");
-    }
-    return 0;
-}
-
-static int operate(const char *path, const char *operation, const char *operand)
-{
-    uint8_t record[TARPAULARK_RECORD], slot = 0;
-    uint64_t answer[TARPAULARK_SLOTS_ANSWER];
-    struct mapped file;
-
-    if (operand != NULL && !as_slot(operand, &slot))
-        return misused("SLOT is a letter from a on");
-    file = map_file(path, 0);
-    if (file.length != TARPAULARK_RECORD)
-        return refuse(31, 0);
-    memcpy(record, file.at, sizeof record);
-    if (strcmp(operation, "show") == 0)
-        return show_record(record);
-    if (strcmp(operation, "start") == 0)
-        return keep_record(path, tarpaulark_slots_start(record, answer), record, answer);
-    if (strcmp(operation, "confirm") == 0)
-        return keep_record(path, tarpaulark_slots_confirm(record, answer), record, answer);
-    if (strcmp(operation, "set-active") == 0)
-        return keep_record(path, tarpaulark_slots_set_active(record, slot, answer), record, answer);
-    return keep_record(path, tarpaulark_slots_modified(record, slot, answer), record, answer);
-}
-
-static int fresh(const char *path, const char *operand)
-{
-    uint8_t record[TARPAULARK_RECORD];
-    uint64_t answer[TARPAULARK_SLOTS_ANSWER], count;
-
-    if (operand == NULL || !as_number(operand, UINT8_MAX, &count))
-        return misused("fresh takes a number of slots");
-    return keep_record(path, tarpaulark_slots_fresh((uint8_t)count, record, answer), record, answer);
-}
-
-static int slots(char **words)
-{
-    static const char *const alone[] = {"start", "confirm", "show"};
-    static const char *const with_slot[] = {"set-active", "modified"};
-
-    if (strcmp(words[1], "fresh") == 0)
-        return fresh(words[0], words[2]);
-    for (size_t i = 0; i < sizeof alone / sizeof alone[0]; i++)
-        if (strcmp(words[1], alone[i]) == 0 && words[2] == NULL)
-            return operate(words[0], words[1], NULL);
-    for (size_t i = 0; i < sizeof with_slot / sizeof with_slot[0]; i++)
-        if (strcmp(words[1], with_slot[i]) == 0 && words[2] != NULL)
-            return operate(words[0], words[1], words[2]);
-    return misused("slots takes RECORD and one of its operations");
-}
-
 static const struct command {
     const char *name;
-    int least, most;
-    int (*run)(char **words);
+    size_t least, most;
+    unsigned options;
+    enum status (*run)(const struct request *request);
+    const char *usage, *help;
 } commands[] = {
-    {"judge", 2, 2, judge},
-    {"store", 2, 4, store},
-    {"write", 3, 3, write_image},
-    {"sections", 1, 1, sections},
-    {"slots", 2, 3, slots},
+    {"judge", 2, 2, 0, judge, "judge IMAGE PARTITION-LENGTH",
+     "says whether a sparse image is accepted for a partition of so many bytes"},
+    {"store", 2, 2, DRY_RUN | LIMIT, store, "store IMAGE PARTITION [--limit BLOCKS] [--dry-run]",
+     "stores it on a partition, a file or a block device whose length stays; with a\n"
+     "          limit only its first blocks to be stored, as if power were cut; as a dry run\n"
+     "          nothing, and the bytes that would be kept are listed"},
+    {"list", 1, 1, 0, list, "list IMAGE",
+     "lists the chunks of a sparse image: first block, kind, blocks, bytes of the\n"
+     "          partition, the word of a fill"},
+    {"map", 1, 1, SVG, map, "map IMAGE [--svg FILE]",
+     "draws what a sparse image does to its partition, a cell a stretch of blocks"},
+    {"write", 3, 3, 0, write_image, "write FLAT BLOCK-SIZE OUT", "makes a sparse image from flat bytes"},
+    {"sections", 1, 1, 0, sections, "sections BOOT-IMAGE",
+     "prints the version of a boot image, then name, position and size of each\n"
+     "          section that it has"},
+    {"slots", 2, 3, 0, slots,
+     "slots RECORD fresh COUNT\n"
+     "       tarpaulark slots RECORD start | confirm | show\n"
+     "       tarpaulark slots RECORD set-active | modified SLOT",
+     "works on a slot record of 17 bytes: fresh makes one for 1 to 4 slots, start picks\n"
+     "          the slot to start and takes its try, confirm marks the current slot\n"
+     "          successful, show prints the record; SLOT is a letter from a on"},
 };
+enum { COMMANDS = sizeof commands / sizeof commands[0] };
+
+static const char options_help[] =
+    "\n"
+    "--json prints one object in place of the text, with the same numbers; for a refusal\n"
+    "and a failure too. -h or --help, alone or after a command, prints this, --version the\n"
+    "version. After -- no word is taken for an option.\n"
+    "\n"
+    "Images, partitions and records are locked while they are used; a busy one is left\n"
+    "alone. Results are on the disk before they are printed.\n"
+    "\n"
+    "Exit status: 0 done\n"
+    "             1 refused: `refused NUMBER at PLACE` and its meaning, on standard error\n"
+    "             2 bad usage, or a file of a kind that cannot be used\n"
+    "             3 input or output failed, or a file is busy or was changed meanwhile\n"
+    "             4 done, but not all could be printed\n";
+
+static sigjmp_buf lost_page;
+
+/* The disk failed, or a file was cut short, under the mapping. */
+static void on_lost_page(int number)
+{
+    (void)number;
+    siglongjmp(lost_page, 1);
+}
+
+static void print_help(const struct command *only)
+{
+    for (size_t i = 0; i < COMMANDS; i++)
+        if (only == NULL || only == commands + i)
+            printf("%s tarpaulark %s\n", only == NULL && i > 0 ? "      " : "usage:", commands[i].usage);
+    puts("");
+    for (size_t i = 0; i < COMMANDS; i++)
+        if (only == NULL || only == commands + i)
+            printf("%-9s %s\n", commands[i].name, commands[i].help);
+    fputs(options_help, stdout);
+}
+
+static const struct command *command_named(const char *name)
+{
+    for (size_t i = 0; name != NULL && i < COMMANDS; i++)
+        if (strcmp(name, commands[i].name) == 0)
+            return commands + i;
+    return NULL;
+}
+
+/* The words must be as many as the command takes, and its options among those that it has. */
+static void expect_usage(const struct command *command, const struct line *line)
+{
+    char text[512];
+
+    if (line->count >= command->least && line->count <= command->most
+        && (line->options & ~command->options) == 0)
+        return;
+    snprintf(text, sizeof text, "usage: tarpaulark %s", command->usage);
+    misused(NULL, text);
+}
+
+static enum status run(char **words)
+{
+    static struct line line;
+    const struct command *command;
+
+    take_words(&line, words);
+    command = command_named(line.command);
+    if (line.help || line.version) {
+        if (line.help)
+            print_help(command);
+        else
+            puts("tarpaulark " TARPAULARK_VERSION);
+        exit((int)finish_text());
+    }
+    if (line.command == NULL)
+        misused(NULL, "no command is given");
+    if (command == NULL)
+        misused(line.command, "is no command; see tarpaulark --help");
+    answer_to(command->name);
+    expect_usage(command, &line);
+    return command->run(&line.request);
+}
 
 int main(int count, char **words)
 {
-    int status = -1;
-
-    if (count == 2 && strcmp(words[1], "--help") == 0)
-        return fputs(usage, stdout) < 0 || fflush(stdout) != 0 ? BAD_USE : 0;
-    for (size_t i = 0; count >= 2 && i < sizeof commands / sizeof commands[0]; i++)
-        if (strcmp(words[1], commands[i].name) == 0 && count - 2 >= commands[i].least
-            && count - 2 <= commands[i].most)
-            status = commands[i].run(words + 2);
-    if (status < 0) {
-        fputs(usage, stderr);
-        return BAD_USE;
-    }
-    if (fflush(stdout) != 0)
-        return misused("the answer could not be printed, but what was asked is done");
-    return status;
+    open_standard_descriptors();
+    signal(SIGPIPE, SIG_IGN);
+    signal(SIGXFSZ, SIG_IGN);
+    signal(SIGBUS, on_lost_page);
+    if (sigsetjmp(lost_page, 1) != 0)
+        failed(NULL, "a file could not be read or written to its end; see to the disk and its room, and run the"
+                     " same command again", 0);
+    return (int)finish(run(words + (count > 0 ? 1 : 0)));
 }

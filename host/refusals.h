@@ -4,9 +4,6 @@
 
 #include <stdint.h>
 
-enum { REFUSED = 1 };
-
-/* Says the refusal on standard error; the exit status for it. */
-int refuse(uint32_t number, uint64_t place);
+const char *refusal_meaning(uint32_t number);
 
 #endif

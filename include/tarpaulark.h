@@ -3,54 +3,49 @@
  * bytes, finds the sections of a boot image, and keeps the slot record.
  *
  * Every function takes any input and always ends. It returns 0, or the number of
- * the first refusal that applies (the table below), and fills the lent array
- * `answer`, whose length is fixed; entries that do not apply are 0. A refusal
- * stores nothing and changes no slot record; only a fresh record is made anew
- * whatever is answered.
+ * the first refusal that applies, and fills the lent array `answer`, whose length
+ * is fixed; entries that do not apply are 0. A refusal stores nothing and changes
+ * no slot record.
  *
  * Nothing is allocated, nothing is kept between calls, and nothing is read or
  * written but what is lent. Calls on memory of their own may run at one time.
  *
+ * What the caller owes
+ *
  * Bytes are lent as a pointer and their number. Lend the whole stretch; a pointer
- * whose number is 0 is never followed. What is written (a partition, an output, a
- * record, an answer) must not overlap anything else that is lent to the call, and
- * nobody else writes to what is lent meanwhile.
+ * whose number is 0 is never followed. An answer and a record are lent whole and
+ * must not be null. What is written (a partition, an output, a record, an answer)
+ * must not overlap anything else that is lent to the call, and nobody else writes
+ * to what is lent meanwhile.
  *
- * Refusals. A sparse refusal carries a place: 0 for numbers 1 to 6, the chunk's
- * offset for 7, 8 and a passed total, the offset after the header and all chunks
- * for a short sum and 10, and 24 for 11. All other refusals carry 0.
+ * Where it runs
  *
- *    No.  When
- *    1    sparse input under 28 bytes
- *    2    wrong magic
- *    3    major version not 1
- *    4    a header size breaks its rule (file header at least 28, chunk header at
- *         least 12, both multiples of 4), or file header size exceeds the input
- *    5    block size not a multiple of 4 from 4 to 65,536
- *    6    total blocks x block size exceeds the partition
- *    7    fewer bytes left than a chunk header, or (after 8) than the chunk's
- *         total size
- *    8    total size wrong for the chunk's type
- *    9    a chunk passes the total blocks, or the sum falls short at the end
- *    10   bytes remain after the last chunk
- *    11   checksum differs
- *    12   output too short for the image to be written (after 5 and 13)
- *    13   flat length above 2,147,483,648 or not whole blocks (after 5)
- *    21   boot input under 44 bytes, or (after 23) under its header length
- *    22   boot magic is not ANDROID!
- *    23   boot header version above 4
- *    24   header size field (versions 1 to 4) not the header length
- *    25   page size not a number with a single one bit from 2,048 to 16,384
- *    26   a section that is not empty ends past the input (after 28 and 27)
- *    27   recovery size not 0 and its offset not the computed position
- *    28   a section position does not fit in 64 bits
- *    31   invalid slot record, or bytes that are none; fresh record for a number
- *         of slots not 1 to 4
- *    32   slot past d or not in use (set active, modified)
- *    33   confirming an unbootable slot
+ * The library is x86-64 code for the System V calling convention. It needs no C
+ * library and no other library: it has no undefined symbol. It uses the vector
+ * registers xmm0 to xmm15 (SSE2), which a loader must have switched on and must
+ * save if it interrupts a call, and the 128 bytes below the stack pointer that
+ * the convention grants. No function calls itself; as compiled, a call takes less
+ * than 2 KiB of stack.
  *
- * Tests run in the order listed, but for 13 before 12 and 28, 27 before 26.
- * Chunks are tested in order, each fully before the next.
+ * How long it takes
+ *
+ * Judging takes time in proportion to the image's length, whatever it says in its
+ * header: every chunk takes at least 12 bytes of the image, and one of fill or
+ * skipped blocks costs at most a fixed number of steps, however many blocks it
+ * names. Storing takes that, and time in proportion to the bytes that it stores.
+ * Writing takes time in proportion to the flat bytes, which are read three times
+ * at most. All else takes a fixed number of steps.
+ *
+ * What a restart assumes
+ *
+ * Power may fail any number of times while images are stored. Storing the same
+ * images from the first on, on the partition as it was left, then leaves what it
+ * would have left without the cuts, with the same answers, and bytes that no
+ * accepted image stores are the original ones at every moment. That is proved, for
+ * blocks that reach the medium in any order and of which any number is old, new or
+ * torn, and it assumes: the list of images and the partition's length stay the
+ * same; nobody else writes to the partition; and the medium changes no byte
+ * outside the blocks that are written.
  */
 #ifndef TARPAULARK_H
 #define TARPAULARK_H
@@ -58,11 +53,16 @@
 #include <stddef.h>
 #include <stdint.h>
 
+/* The version of the header, the library and the host tool; it stands only here. */
+#define TARPAULARK_VERSION "0.1.0"
+
 /* Lengths of the answers, and of a slot record. */
 #define TARPAULARK_JUDGE_ANSWER 3
 #define TARPAULARK_STORE_ANSWER 3
 #define TARPAULARK_STORE_LIMITED_ANSWER 2
 #define TARPAULARK_WRITE_ANSWER 2
+#define TARPAULARK_HEADER_ANSWER 6
+#define TARPAULARK_CHUNK_ANSWER 6
 #define TARPAULARK_LOCATE_ANSWER 19
 #define TARPAULARK_SLOTS_ANSWER 2
 #define TARPAULARK_RECORD 17
@@ -71,11 +71,134 @@
 #define TARPAULARK_WRITE_BOUND(flat_len, block_size) \
     (28 + (uint64_t)(flat_len) + 12 * ((uint64_t)(flat_len) / (block_size)))
 
-/* Kinds of a slot operation's answer. */
-#define TARPAULARK_DONE 0
-#define TARPAULARK_STARTS 1
-#define TARPAULARK_RECOVERY 2
-#define TARPAULARK_REFUSED 3
+/*
+ * Refusals. Tests run in the order listed, but for 13 before 12 and 28, 27 before
+ * 26. Chunks are tested in order, each fully before the next.
+ *
+ * A sparse refusal carries a place: 0 for numbers 1 to 6, the chunk's offset for
+ * 7, 8 and a passed total, the offset after the header and all chunks for a short
+ * sum and 10, and 24 for 11. All other refusals carry 0.
+ */
+enum tarpaulark_refusal {
+    /* sparse input under 28 bytes */
+    TARPAULARK_BAD_LENGTH = 1,
+    /* wrong magic */
+    TARPAULARK_BAD_MAGIC = 2,
+    /* major version not 1 */
+    TARPAULARK_BAD_MAJOR = 3,
+    /* a header size breaks its rule (file header at least 28, chunk header at
+       least 12, both multiples of 4), or file header size exceeds the input */
+    TARPAULARK_BAD_HEADER_SIZE = 4,
+    /* block size not a multiple of 4 from 4 to 65,536 */
+    TARPAULARK_BAD_BLOCK_SIZE = 5,
+    /* total blocks x block size exceeds the partition */
+    TARPAULARK_BAD_ROOM = 6,
+    /* fewer bytes left than a chunk header, or (after 8) than the chunk's total
+       size */
+    TARPAULARK_BAD_CHUNK_END = 7,
+    /* total size wrong for the chunk's type. It must be, for 0xCAC1 raw: chunk
+       header size + blocks x block size; for 0xCAC2 fill: chunk header size + 4;
+       for 0xCAC3 don't care: chunk header size; for any other type: a multiple
+       of 4, and no less than the chunk header size */
+    TARPAULARK_BAD_CHUNK_SIZE = 8,
+    /* a chunk passes the total blocks, or the sum falls short at the end */
+    TARPAULARK_BAD_TOTAL = 9,
+    /* bytes remain after the last chunk */
+    TARPAULARK_BAD_TAIL = 10,
+    /* checksum differs; a checksum of 0 is taken as stated */
+    TARPAULARK_BAD_CHECKSUM = 11,
+    /* output too short for the image to be written (after 5 and 13) */
+    TARPAULARK_BAD_OUTPUT = 12,
+    /* flat length above 2,147,483,648 or not whole blocks (after 5) */
+    TARPAULARK_BAD_FLAT = 13,
+    /* boot input under 44 bytes, or (after 23) under its header length */
+    TARPAULARK_BAD_BOOT_LENGTH = 21,
+    /* boot magic is not ANDROID! */
+    TARPAULARK_BAD_BOOT_MAGIC = 22,
+    /* boot header version above 4 */
+    TARPAULARK_BAD_BOOT_VERSION = 23,
+    /* header size field (versions 1 to 4) not the header length */
+    TARPAULARK_BAD_BOOT_HEADER_SIZE = 24,
+    /* page size not a number with a single one bit from 2,048 to 16,384 */
+    TARPAULARK_BAD_BOOT_PAGE_SIZE = 25,
+    /* a section that is not empty ends past the input (after 28 and 27) */
+    TARPAULARK_BAD_BOOT_END = 26,
+    /* recovery size not 0 and its offset not the computed position */
+    TARPAULARK_BAD_BOOT_RECOVERY = 27,
+    /* a section position does not fit in 64 bits */
+    TARPAULARK_BAD_BOOT_POSITION = 28,
+    /* invalid slot record, or bytes that are none; fresh record for a number of
+       slots not 1 to 4 */
+    TARPAULARK_BAD_RECORD = 31,
+    /* slot past d or not in use (set active, modified) */
+    TARPAULARK_BAD_SLOT = 32,
+    /* confirming an unbootable slot */
+    TARPAULARK_BAD_CONFIRM = 33
+};
+
+/* Positions in the answers of judge, store, store_limited and write. */
+enum {
+    TARPAULARK_PLACE = 0,   /* of the refusal, in each of them and in chunk's */
+    TARPAULARK_WRITTEN = 1, /* judge, store: blocks of raw and fill chunks */
+    TARPAULARK_SKIPPED = 2, /* judge, store: blocks of all other chunks */
+    TARPAULARK_STORED = 1,  /* store_limited: blocks stored */
+    TARPAULARK_LENGTH = 1   /* write: the image's length */
+};
+
+/* Positions in the answer of header. */
+enum {
+    TARPAULARK_HEADER_BLOCK = 0,    /* block size in bytes */
+    TARPAULARK_HEADER_TOTAL = 1,    /* total blocks */
+    TARPAULARK_HEADER_CHUNKS = 2,   /* total chunks */
+    TARPAULARK_HEADER_CHECKSUM = 3, /* the checksum that is stated */
+    TARPAULARK_HEADER_START = 4,    /* file header size: where the first chunk begins */
+    TARPAULARK_HEADER_HEAD = 5      /* chunk header size */
+};
+
+/* Positions in the answer of chunk, after the place, and kinds of a chunk. */
+enum {
+    TARPAULARK_CHUNK_KIND = 1,   /* one of the four kinds below */
+    TARPAULARK_CHUNK_BLOCKS = 2, /* its blocks */
+    TARPAULARK_CHUNK_DATA = 3,   /* offset of its data in the image */
+    TARPAULARK_CHUNK_NEXT = 4,   /* offset of the next chunk */
+    TARPAULARK_CHUNK_FIRST = 5   /* first block of the next chunk */
+};
+enum {
+    TARPAULARK_RAW = 0,
+    TARPAULARK_FILL = 1,
+    TARPAULARK_DONT_CARE = 2,
+    TARPAULARK_UNKNOWN = 3
+};
+
+/* Positions in the answer of locate: the version; then section number s has its
+   three numbers from TARPAULARK_SECTION(s) on. */
+enum {
+    TARPAULARK_VERSION_AT = 0,
+    TARPAULARK_SECTION_PRESENT = 0,
+    TARPAULARK_SECTION_POSITION = 1,
+    TARPAULARK_SECTION_SIZE = 2
+};
+enum {
+    TARPAULARK_KERNEL = 0,
+    TARPAULARK_RAMDISK = 1,
+    TARPAULARK_SECOND = 2,
+    TARPAULARK_RECOVERY_IMAGE = 3,
+    TARPAULARK_DTB = 4,
+    TARPAULARK_SIGNATURE = 5
+};
+#define TARPAULARK_SECTION(s) (1 + 3 * (s))
+
+/* Positions in the answer of a slot operation, and kinds of such an answer. */
+enum {
+    TARPAULARK_SLOTS_KIND = 0,
+    TARPAULARK_SLOTS_STARTED = 1
+};
+enum {
+    TARPAULARK_DONE = 0,
+    TARPAULARK_STARTS = 1,
+    TARPAULARK_RECOVERY = 2,
+    TARPAULARK_REFUSED = 3
+};
 
 #ifdef __cplusplus
 extern "C" {
@@ -97,7 +220,9 @@ uint32_t tarpaulark_judge(
  * image; writes exactly the bytes of its raw and fill blocks, which lie in order
  * from byte 0 of the partition, and keeps every other byte. A refusal leaves the
  * partition as it was.
- * Refusals and answer: as for tarpaulark_judge.
+ * Refusals and answer: as for tarpaulark_judge. They are what the reader of the
+ * image said last: were the image changed between judging and storing, which the
+ * caller owes not to let happen, the refusal of the second reading is returned.
  */
 uint32_t tarpaulark_store(
     const uint8_t *image, size_t image_len, uint8_t *partition, size_t partition_len,
@@ -128,6 +253,31 @@ uint32_t tarpaulark_write(
     uint64_t answer[TARPAULARK_WRITE_ANSWER]);
 
 /*
+ * Reads the file header of a sparse image, for a partition of partition_len bytes.
+ * Refusals: 1 to 6; it says nothing of the chunks or of the checksum.
+ * answer: block size; total blocks; total chunks; the checksum that is stated;
+ * file header size, which is the offset of the first chunk; chunk header size.
+ * After a refusal all are 0.
+ */
+uint32_t tarpaulark_header(
+    const uint8_t *image, size_t image_len, uint64_t partition_len,
+    uint64_t answer[TARPAULARK_HEADER_ANSWER]);
+
+/*
+ * Reads the chunk at the offset `at` whose first block is `first`, by the header
+ * that the image has, be it good or not. Walk an image from its file header size
+ * and block 0, and go on from the offset and block that are answered, as many
+ * times as there are chunks. Any offset and any block may be asked for.
+ * Refusals: 7, 8, 9 (a passed total).
+ * answer: place (`at` for a refusal, else 0); kind; blocks; offset of its data;
+ * offset of the next chunk; first block of the next chunk. After a refusal all
+ * but the place are 0.
+ */
+uint32_t tarpaulark_chunk(
+    const uint8_t *image, size_t image_len, uint64_t at, uint32_t first,
+    uint64_t answer[TARPAULARK_CHUNK_ANSWER]);
+
+/*
  * Finds the sections of a boot image. Reads the image.
  * Refusals, in this order: 21, 22, 23, 21, 24, 25, 28, 27, 26.
  * answer: version; then for kernel, ramdisk, second, recovery, dtb and signature
@@ -151,18 +301,24 @@ uint32_t tarpaulark_locate(
  * flag than 0 or 1 are no record. Both give 31, and the bytes stay as they were.
  *
  * Each operation reads the record and, unless it is refused, writes the new one
- * in its place.
+ * in its place. A number of slots or a slot is taken whole, as 32 bits: one that
+ * does not fit is refused, whatever its low bits say.
  * answer: kind (TARPAULARK_DONE, _STARTS, _RECOVERY, _REFUSED); the slot that
  * starts, or 0.
  */
 
 /*
+ * Whether 17 bytes are a valid record: 0, or 31 where they are not. Reads them.
+ */
+uint32_t tarpaulark_slots_valid(const uint8_t record[TARPAULARK_RECORD]);
+
+/*
  * Makes a record for 1 to 4 slots, whatever the bytes held: the first so many in
- * use, current a, flags clear, tries 3. Another number gives 31 and a record with
- * no slot in use, current a, flags clear, tries 0: 17 bytes of 0.
+ * use, current a, flags clear, tries 3. Another number gives 31, and the bytes
+ * stay as they were.
  */
 uint32_t tarpaulark_slots_fresh(
-    uint8_t slots, uint8_t record[TARPAULARK_RECORD], uint64_t answer[TARPAULARK_SLOTS_ANSWER]);
+    uint32_t slots, uint8_t record[TARPAULARK_RECORD], uint64_t answer[TARPAULARK_SLOTS_ANSWER]);
 
 /*
  * Start. If the current slot is not unbootable, and is successful or has tries
@@ -180,14 +336,14 @@ uint32_t tarpaulark_slots_start(
  * Refusals: 31, 32.
  */
 uint32_t tarpaulark_slots_set_active(
-    uint8_t record[TARPAULARK_RECORD], uint8_t slot, uint64_t answer[TARPAULARK_SLOTS_ANSWER]);
+    uint8_t record[TARPAULARK_RECORD], uint32_t slot, uint64_t answer[TARPAULARK_SLOTS_ANSWER]);
 
 /*
  * Partition modified. The slot's successful flag clears, tries 3. Unbootable
  * stays. Refusals: 31, 32.
  */
 uint32_t tarpaulark_slots_modified(
-    uint8_t record[TARPAULARK_RECORD], uint8_t slot, uint64_t answer[TARPAULARK_SLOTS_ANSWER]);
+    uint8_t record[TARPAULARK_RECORD], uint32_t slot, uint64_t answer[TARPAULARK_SLOTS_ANSWER]);
 
 /*
  * Confirm. The current slot, if not unbootable, becomes successful. The system

@@ -5,14 +5,15 @@
 Calls each function of FUNCTIONS in turn.  All choices of a case come from the
 seed and the case's number, so `--start N` with the same functions goes straight
 to case N.  Each buffer has guard bytes before and after it, which must stay as
-they are; a buffer that is only read must stay too.  Prints one line,
-`differential: N calls agree`; at the first difference it shows that case instead
-and ends with 1, also when a call crashes or does not end.
+they are; a buffer that is only read must stay too; the pointer to no bytes may be
+null.  Prints one line, `differential: N calls agree`; at the first difference it
+shows that case instead and ends with 1, also when a call crashes or does not end.
 
 A function of the library takes its arguments in order, then a pointer to the
-numbers it answers with, whose count is fixed.  Bytes are a pointer and a length,
-a slot record is a pointer to its 17 bytes.  It returns 0 or the number of its
-refusal.  include/tarpaulark.h has the declarations.
+numbers it answers with, whose count is fixed; one that answers none takes no such
+pointer.  Bytes are a pointer and a length, a slot record is a pointer to its 17
+bytes.  It returns 0 or the number of its refusal.  include/tarpaulark.h has the
+declarations.
 """
 
 import argparse
@@ -33,11 +34,12 @@ import cases_slots
 import cases_sparse
 import cases_store
 import cases_write
+import fields
 import sparse
 import store
 import writer
 from cases_common import below, pick, some_bytes
-from slots import PLACES, Record, Slot
+from slots import PLACES, Record, Slot, is_valid
 
 PREFIX = "tarpaulark_"
 SEED = 20240903
@@ -50,6 +52,8 @@ EDGES += tuple(2**k + d for k in (30, 31, 32) for d in (-4, -1, 0, 1) if 2**k + 
 ROOM = 2**64 - 1
 RECORD_LENGTH = 17
 REFUSED = 3
+CHUNK_KINDS = {sparse.TYPE_RAW: 0, sparse.TYPE_FILL: 1, sparse.TYPE_DONT_CARE: 2}
+UNKNOWN_KIND = 3
 
 Argument = Union[bytes, int]
 
@@ -101,7 +105,7 @@ class Guarded:
         return whole[:self.before] == front and whole[self.before + self.length:] == GUARD_BYTES
 
 
-NUMBER_TYPES = {8: ctypes.c_uint8, 32: ctypes.c_uint32, 64: ctypes.c_uint64}
+NUMBER_TYPES = {32: ctypes.c_uint32, 64: ctypes.c_uint64}
 
 
 def signature(function: Function) -> List[Any]:
@@ -114,7 +118,7 @@ def signature(function: Function) -> List[Any]:
             types.append(ctypes.c_void_p)
         else:
             types.append(NUMBER_TYPES[int(kind)])
-    return types + [ctypes.c_void_p]
+    return types + ([ctypes.c_void_p] if function.answers else [])
 
 
 def as_number_array(data: bytes) -> Tuple[int, ...]:
@@ -130,11 +134,12 @@ def fault_of(foreign: Any, function: Function, call: Call, rng: random.Random) -
     buffers = iter(lent)
     for kind, item in zip(function.types, call.arguments):
         if isinstance(item, bytes):
-            values.append(next(buffers).address())
+            address = next(buffers).address()
+            values.append(address if item or below(rng, 2) == 0 else 0)
             values += [len(item)] if kind == "bytes" else []
         else:
             values.append(item)
-    number = foreign(*values, out.address())
+    number = foreign(*values, *([out.address()] if function.answers else []))
     if number != call.number:
         return f"number {number}, expected {call.number}"
     found = as_number_array(out.data())
@@ -287,6 +292,50 @@ def write_call(rng: random.Random) -> Call:
     return Call((flat, block_size, output), number, (0, length), (flat, after))
 
 
+def header_call(rng: random.Random) -> Call:
+    """`header`: block size, total blocks, total chunks, checksum, file and chunk header size."""
+    image = sparse_input(rng, False)
+    length = pick(rng, (partition_length(rng, image), ROOM, rng.getrandbits(64)))
+    header = sparse.read_header(image)
+    number = sparse.header_number(image, header, length)
+    out = (
+        header.block_size, header.total_blocks, header.total_chunks, header.checksum,
+        header.file_header_size, header.chunk_header_size,
+    )
+    return Call((image, length), number, (0,) * 6 if number else out, (image,))
+
+
+def chunk_cursor(rng: random.Random, image: bytes, header: sparse.Header) -> Tuple[int, int]:
+    """A cursor that a walk over the image comes to, or near one, or any."""
+    come_to = [(header.file_header_size, 0)]
+    while len(come_to) < min(12, header.total_chunks):
+        chunk = sparse.read_chunk(image, header, *come_to[-1])
+        if isinstance(chunk, sparse.Refusal):
+            break
+        come_to.append((chunk.end, chunk.first_block + chunk.blocks))
+    at, first = pick(rng, come_to)
+    at += pick(rng, (0, 0, 0, 0, -4, 4, 1))
+    first += pick(rng, (0, 0, 0, 0, 1, -1))
+    if below(rng, 6) == 0:
+        at = pick(rng, (len(image), len(image) + 1, ROOM, ROOM - 11, rng.getrandbits(64), rng.getrandbits(7)))
+    if below(rng, 6) == 0:
+        first = pick(rng, (header.total_blocks, header.total_blocks + 1, 2**32 - 1, rng.getrandbits(32)))
+    return max(0, at), min(max(0, first), 2**32 - 1)
+
+
+def chunk_call(rng: random.Random) -> Call:
+    """`chunk`: place, kind, blocks, offset of its data, next offset, next first block."""
+    image = sparse_input(rng, False)
+    header = sparse.read_header(image)
+    at, first = chunk_cursor(rng, image, header)
+    chunk = sparse.read_chunk(image, header, at, first)
+    if isinstance(chunk, sparse.Refusal):
+        return Call((image, at, first), chunk.number, (chunk.place, 0, 0, 0, 0, 0), (image,))
+    kind = CHUNK_KINDS.get(fields.read(image, at, 2), UNKNOWN_KIND)
+    out = (0, kind, chunk.blocks, chunk.data_at, chunk.end, first + chunk.blocks)
+    return Call((image, at, first), 0, out, (image,))
+
+
 def locate_call(rng: random.Random) -> Call:
     """`locate`: version, then present, position and size of the six sections."""
     image = boot_input(rng)
@@ -303,13 +352,30 @@ def no_record(rng: random.Random, given: bytes) -> bytes:
     return given
 
 
+def small_or_any(rng: random.Random) -> int:
+    """A number of 32 bits: small, or a small one but for its low byte, or any."""
+    small = below(rng, 6)
+    return pick(rng, (small, small, small, 256 + small, 2**31 + small, rng.getrandbits(32)))
+
+
 def fresh_call(rng: random.Random) -> Call:
-    """`slots_fresh`: kind and started slot; the record is made, whatever stood there."""
-    slots = pick(rng, (0, 1, 2, 3, 4, 5, rng.getrandbits(8)))
+    """`slots_fresh`: kind and started slot; the record is made, whatever stood there, and stays where none is."""
+    count = small_or_any(rng)
+    given = some_bytes(rng, RECORD_LENGTH)
     number, kind, started, *after = cases_slots.values(
-        cases_slots.Case(cases_slots.FRESH, slots, any_record(rng))
+        cases_slots.Case(cases_slots.FRESH, count, any_record(rng))
     )
-    return Call((slots, some_bytes(rng, RECORD_LENGTH)), number, (kind, started), (bytes(after),))
+    return Call((count, given), number, (kind, started), (given if number else bytes(after),))
+
+
+def valid_call(rng: random.Random) -> Call:
+    """`slots_valid`: 0 or 31 for any 17 bytes."""
+    record = any_record(rng)
+    given = bytes(cases_slots.record_values(record))
+    number = 0 if is_valid(record) else 31
+    if below(rng, 4) == 0:
+        given, number = no_record(rng, given), 31
+    return Call((given,), number, (), (given,))
 
 
 def slots_call(operation: int, takes_slot: bool) -> Callable[[random.Random], Call]:
@@ -318,7 +384,7 @@ def slots_call(operation: int, takes_slot: bool) -> Callable[[random.Random], Ca
     give 31 and stay."""
     def make(rng: random.Random) -> Call:
         record = any_record(rng)
-        slot = pick(rng, (0, 1, 2, 3, 4, 5, rng.getrandbits(8))) if takes_slot else 0
+        slot = small_or_any(rng) if takes_slot else 0
         given = bytes(cases_slots.record_values(record))
         number, kind, started, *after = cases_slots.values(
             cases_slots.Case(operation, slot, record)
@@ -336,11 +402,14 @@ FUNCTIONS = (
     Function("store", ("bytes", "bytes"), 3, store_call),
     Function("store_limited", ("bytes", "bytes", 64), 2, store_limited_call),
     Function("write", ("bytes", 32, "bytes"), 2, write_call),
+    Function("header", ("bytes", 64), 6, header_call),
+    Function("chunk", ("bytes", 64, 32), 6, chunk_call),
     Function("locate", ("bytes",), 19, locate_call),
-    Function("slots_fresh", (8, "record"), 2, fresh_call),
+    Function("slots_valid", ("record",), 0, valid_call),
+    Function("slots_fresh", (32, "record"), 2, fresh_call),
     Function("slots_start", ("record",), 2, slots_call(cases_slots.START, False)),
-    Function("slots_set_active", ("record", 8), 2, slots_call(cases_slots.SET_ACTIVE, True)),
-    Function("slots_modified", ("record", 8), 2, slots_call(cases_slots.MODIFIED, True)),
+    Function("slots_set_active", ("record", 32), 2, slots_call(cases_slots.SET_ACTIVE, True)),
+    Function("slots_modified", ("record", 32), 2, slots_call(cases_slots.MODIFIED, True)),
     Function("slots_confirm", ("record",), 2, slots_call(cases_slots.CONFIRM, False)),
 )
 

@@ -1,22 +1,40 @@
-"""Runs the host tool on the checked examples and on bad usage.
+"""Runs the host tool on the checked examples, on bad usage and on faults.
 
-    python3 tests/host.py TOOL
+    python3 tests/host.py TOOL...
 
 Each case is a command line, its exit status, and what it prints: on standard
 output, or for a refusal the first line on standard error.  Then come the files
-that the commands leave.  Prints one line, `host: N cases agree`.
+that the commands leave, and the checks below, each in a folder of its own.  A
+tool that was not built is left out with a line, and so is a check that this
+machine cannot make.  Prints one line a tool, `host: N cases and M checks agree`.
 """
 
+import contextlib
+import fcntl
+import json
 import os
+import random
+import re
+import shlex
+import shutil
+import signal
+import stat
 import subprocess
 import sys
 import tempfile
-from typing import Dict, List, NamedTuple
+import time
+import xml.etree.ElementTree
+from typing import Any, Callable, Dict, Iterator, List, NamedTuple, Optional, Tuple
 
 HERE = os.path.dirname(os.path.abspath(__file__))
+ROOT = os.path.dirname(HERE)
 sys.path.insert(0, os.path.join(HERE, "reference"))
 
 import build
+import cases_store
+import sparse
+
+LONGEST_WAIT = 20
 
 
 class Case(NamedTuple):
@@ -28,21 +46,50 @@ class Case(NamedTuple):
 
 
 P9_IMAGE = build.sparse_image(8, [build.raw(b"\xFF" * 4 + bytes(4), 8), build.fill(bytes(4), 1)])
+ALL_KINDS = build.sparse_image(4, [
+    build.raw(b"abcdefgh", 4), build.fill(b"\x01\x02\x03\x04", 3), build.skip(2),
+    build.unknown(7, 1, b"more"), build.raw(b"", 4), build.fill(bytes(4), 1), build.skip(1),
+])
 
 FILES: Dict[str, bytes] = {
     "p2": build.two_chunks(),
     "p6": build.two_chunks() + b"\0",
     "p8": build.two_chunks(checksum=0),
+    "wrong": build.two_chunks(checksum=5),
+    "kinds": ALL_KINDS,
     "none": b"",
     "none2": b"",
     "nothing": build.sparse_image(4096, []),
     "part": b"abcdefghijkl",
     "cut": b"abcdefghijkl",
+    "long": b"long" * 12,
     "flat": b"\xFF" * 4 + bytes(12),
     "boot": build.boot_image(3, 12289, kernel=4097, ramdisk=1),
     "odd": bytes([1, 2]) + bytes(15),
     "ends": bytes([1, 0, 0, 0] + [1, 0, 1, 0] + [0] * 9),
 }
+
+LISTED = """block 4 total 10 chunks 7 checksum 0x{:08x}
+first block kind        blocks       from byte     before byte fill word
+          0 raw              2               0               8
+          2 fill             3               8              20 0x04030201
+          5 skip             2              20              28
+          7 unknown          1              28              32
+          8 raw              0              32              32
+          8 fill             1              32              36 0x00000000
+          9 skip             1              36              40
+blocks raw 2 fill 4 skip 3 unknown 1
+ok written 6 skipped 4""".format(sparse.read_header(ALL_KINDS).checksum)
+
+DRAWN = """block 4 total 10 cell 1
+         0  ##===..?=.
+a cell is 1 block:  # raw  = fill  . kept  ? unknown
+blocks raw 2 fill 4 kept 3 unknown 1"""
+
+DRY = """ok written 6 skipped 4
+kept from 20 before 32
+kept from 36 before 48
+dry run: nothing is stored"""
 
 CASES = (
     Case("judge p2 12", 0, "ok written 1 skipped 2"),
@@ -52,20 +99,37 @@ CASES = (
     Case("judge none 0", 1, "refused 1 at 0"),
     Case("judge p2 18446744073709551616", 2, ""),
     Case("judge p2 -1", 2, ""),
-    Case("judge missing 12", 2, ""),
+    Case("judge -- p2 12", 0, "ok written 1 skipped 2"),
+    Case("judge missing 12", 3, ""),
     Case("judge p2", 2, ""),
+    Case("judge p2 12 --limit 1", 2, ""),
+    Case("judge p2 12 --strange", 2, ""),
     Case("store p2 part", 0, "ok written 1 skipped 2"),
     Case("store p6 part", 1, "refused 10 at 56"),
     Case("store p2 cut --limit 0", 0, "ok stored 0"),
+    Case("store --limit 0 p2 cut", 0, "ok stored 0"),
     Case("store p2 cut --limit", 2, ""),
     Case("store p2 p2", 2, ""),
     Case("store none none2", 1, "refused 1 at 0"),
     Case("store nothing none", 0, "ok written 0 skipped 0"),
+    Case("store p2 cut --dry-run", 0, "ok written 1 skipped 2\nkept from 4 before 12\ndry run: nothing is stored"),
+    Case("store kinds long --dry-run", 0, DRY),
+    Case("store kinds long --dry-run --limit 3", 0,
+         "ok stored 3\nkept from 12 before 48\ndry run: nothing is stored"),
+    Case("store kinds cut --dry-run", 1, "refused 6 at 0"),
+    Case("list kinds", 0, LISTED),
+    Case("list p6", 1, "refused 10 at 56"),
+    Case("map kinds", 0, DRAWN),
+    Case("map p6 --svg refused", 1, "refused 10 at 56"),
+    Case("map p2 --svg p2", 2, ""),
+    Case("map p2 --svg", 2, ""),
+    Case("map p2 --svg --help", 2, ""),
     Case("write flat 8 image", 0, "ok bytes 64"),
     Case("write none 4096 small", 0, "ok bytes 28"),
     Case("write flat 0 refused", 1, "refused 5 at 0"),
     Case("write flat 12 refused", 1, "refused 13 at 0"),
-    Case("write flat 8 missing/image", 2, ""),
+    Case("write flat 8 missing/image", 3, ""),
+    Case("write flat 8 flat", 2, ""),
     Case("sections boot", 0, "version 3\nkernel 4096 4097\nramdisk 12288 1"),
     Case("sections flat", 1, "refused 21 at 0"),
     Case("slots record fresh 2", 0, "ok"),
@@ -76,19 +140,28 @@ CASES = (
     Case("slots record modified b", 0, "ok"),
     Case("slots record modified c", 1, "refused 32 at 0"),
     Case("slots record fresh 5", 1, "refused 31 at 0"),
+    Case("slots record fresh 257", 1, "refused 31 at 0"),
     Case("slots record show", 0, "current b\na tries 2\nb tries 3"),
     Case("slots record modified", 2, ""),
+    Case("slots long fresh 2", 2, ""),
+    Case("slots none2 fresh 1", 0, "ok"),
+    Case("slots missing start", 3, ""),
     Case("slots odd start", 1, "refused 31 at 0"),
+    Case("slots odd show", 1, "refused 31 at 0"),
     Case("slots flat start", 1, "refused 31 at 0"),
     Case("slots ends start", 0, "starts b"),
+    Case("strange p2", 2, ""),
     Case("", 2, ""),
 )
 
 LEFT: Dict[str, bytes] = {
     "part": b"\xFF" * 4 + b"efghijkl",
     "cut": FILES["cut"],
+    "long": FILES["long"],
     "none": b"",
+    "none2": bytes([1, 0, 0, 3] + [0, 0, 0, 3] * 3 + [0]),
     "p2": FILES["p2"],
+    "flat": FILES["flat"],
     "image": P9_IMAGE,
     "small": build.sparse_image(4096, []),
     "odd": FILES["odd"],
@@ -96,43 +169,639 @@ LEFT: Dict[str, bytes] = {
     "record": bytes([1, 0, 0, 2] + [1, 0, 0, 3] + [0, 0, 0, 3] * 2 + [1]),
 }
 
+TRIED = bytes([1, 0, 0, 3] + [0] * 12 + [0])
 
-def faults(tool: str, folder: str) -> List[str]:
-    """What the tool does that it should not."""
-    found = []
-    for case in CASES:
-        done = subprocess.run(
-            [tool, *case.words.split()], cwd=folder, capture_output=True, text=True, check=False
+
+class CannotCheck(Exception):
+    """Why this machine cannot make a check."""
+
+
+class Tool:
+    """The tool, run in the current folder."""
+
+    def __init__(self, path: str, preload: Optional[str]) -> None:
+        self.path = path
+        self.preload = preload
+
+    def command(self, words: str, shell: str = "") -> List[str]:
+        """The words of a process, by way of a shell where something follows them."""
+        if shell:
+            return ["sh", "-c", f'exec "$0" {words} {shell}', self.path]
+        return [self.path, *words.split()]
+
+    def environment(self, **faults: str) -> Dict[str, str]:
+        """That of a run with faults, which need the loaded file."""
+        found = dict(os.environ, ASAN_OPTIONS="verify_asan_link_order=0:detect_leaks=0:exitcode=99",
+                     UBSAN_OPTIONS="exitcode=99")
+        if faults:
+            if not self.preload:
+                raise CannotCheck("no compiler for tests/preload.c")
+            found.update(faults, LD_PRELOAD=self.preload)
+        return found
+
+    def run(self, words: str, shell: str = "", **faults: str) -> "subprocess.CompletedProcess[str]":
+        """Runs it to its end."""
+        return subprocess.run(
+            self.command(words, shell), env=self.environment(**faults), capture_output=True, text=True,
+            timeout=LONGEST_WAIT, check=False,
         )
-        text = done.stdout.rstrip("\n") if done.returncode == 0 else done.stderr.split("\n")[0]
-        if done.returncode != case.status or (case.status != 2 and text != case.text):
-            found.append(f"{case.words}: status {done.returncode}, {text!r}")
-        if case.status == 2 and (done.stdout or not done.stderr):
-            found.append(f"{case.words}: should say what to do, on standard error alone")
-    names = set(os.listdir(folder))
-    found += [f"{name} is left over" for name in names - set(FILES) - set(LEFT)]
-    for name, data in LEFT.items():
-        with open(os.path.join(folder, name), "rb") as file:
-            if file.read() != data:
-                found.append(f"{name} does not hold what it should")
+
+    def run_bytes(self, *words: bytes) -> "subprocess.CompletedProcess[bytes]":
+        """Runs it to its end with words of any bytes."""
+        return subprocess.run(
+            [self.path.encode(), *words], env=self.environment(), capture_output=True, timeout=LONGEST_WAIT,
+            check=False,
+        )
+
+    def begin(self, words: str, **faults: str) -> "subprocess.Popen[bytes]":
+        """Begins to run it."""
+        return subprocess.Popen(
+            self.command(words), env=self.environment(**faults), stdout=subprocess.PIPE, stderr=subprocess.PIPE
+        )
+
+
+def read(path: str) -> bytes:
+    """What a file holds."""
+    with open(path, "rb") as file:
+        return file.read()
+
+
+def save(path: str, data: bytes) -> None:
+    """Makes a file."""
+    with open(path, "wb") as file:
+        file.write(data)
+
+
+def expect(holds: bool, what: str, done: Any = None) -> None:
+    """Ends a check where something does not hold."""
+    said = "" if done is None else f" (status {done.returncode}: {done.stdout!r} {done.stderr!r})"
+    if not holds:
+        raise AssertionError(what + said)
+
+
+def expect_end(done: "subprocess.CompletedProcess[str]", status: int, words: str = "") -> None:
+    """The exit status, and words that standard error has."""
+    expect(done.returncode == status and words in done.stderr, f"status {status} and {words!r} expected", done)
+
+
+@contextlib.contextmanager
+def locked(path: str, kind: int) -> Iterator[None]:
+    """Holds a file as another program would."""
+    with open(path, "rb") as file:
+        fcntl.flock(file, kind)
+        yield
+
+
+# Faults.
+
+def closed_descriptors(tool: Tool) -> None:
+    """What is printed never lands in a file that was opened as descriptor 1 or 2."""
+    for closed, status in (("<&- >&-", 4), ("<&- >&- 2>&-", 4), (">&-", 4), ("2>&-", 0), ("<&- 2>&-", 0)):
+        save("fresh", FILES["cut"])
+        done = tool.run("store p2 fresh", closed)
+        expect(done.returncode == status, f"status with {closed}", done)
+        expect(read("fresh") == LEFT["part"], f"the partition with {closed}")
+        save("fresh", FILES["cut"])
+        expect(tool.run("store p6 fresh", closed).returncode == 1, f"a refusal with {closed}")
+        expect(read("fresh") == FILES["cut"], f"the partition after a refusal with {closed}")
+
+
+def printed_into_files(tool: Tool) -> None:
+    """A file that is worked on is not printed into, also where the caller has it so."""
+    for out in (">>fresh", "1<>fresh", "2<>fresh", "1<>fresh 2>&1"):
+        for words in ("store p2 fresh", "store p6 fresh", "store p2 fresh --json", "store p2 fresh --dry-run"):
+            save("fresh", FILES["cut"])
+            expect(tool.run(words, out).returncode == 2, f"{words} {out}: the status")
+            expect(read("fresh") == FILES["cut"], f"{words} {out}: the partition")
+    save("tried", TRIED)
+    for words, name in (("list p2", "p2"), ("slots tried show", "tried"), ("slots tried start", "tried"),
+                        ("write flat 8 p6", "p6")):
+        before = read(name)
+        expect_end(tool.run(words, f">>{name}"), 2, "print it elsewhere")
+        expect(read(name) == before, f"{words} >>{name}")
+
+
+def device_node(path: str, kind: int) -> str:
+    """A second node of a device, which may come to harm; only the first where we may make none."""
+    try:
+        os.mknod("node", kind | 0o600, os.stat(path).st_rdev)
+    except PermissionError:
+        return path
+    return "node"
+
+
+def kinds_of_targets(tool: Tool) -> None:
+    """A target that is no regular file stays what it is."""
+    os.mkfifo("pipe")
+    os.mkdir("folder")
+    node = device_node("/dev/null", stat.S_IFCHR)
+    for target in ("pipe", "folder", node):
+        for words in ("write flat 8 {}", "slots {} fresh 2", "slots {} start", "map p2 --svg {}", "store p2 {}"):
+            expect_end(tool.run(words.format(target)), 2)
+    expect(stat.S_ISFIFO(os.stat("pipe").st_mode), "the pipe is replaced")
+    expect(stat.S_ISCHR(os.stat(node).st_mode), "the null device is replaced")
+    expect(not os.listdir("folder"), "the folder is written to")
+
+
+@contextlib.contextmanager
+def loop_device(path: str) -> Iterator[str]:
+    """A block device over a file, where the machine lets us have one."""
+    made = subprocess.run(["losetup", "-f", "--show", path], capture_output=True, text=True, check=False) \
+        if shutil.which("losetup") and os.geteuid() == 0 else None
+    if made is None or made.returncode != 0:
+        raise CannotCheck("no loop device to be had")
+    try:
+        yield made.stdout.strip()
+    finally:
+        subprocess.run(["losetup", "-d", made.stdout.strip()], check=True)
+
+
+def block_devices(tool: Tool) -> None:
+    """A block device is a partition, held alone, and is never replaced."""
+    image = build.sparse_image(512, [build.fill(b"abcd", 2), build.skip(6)])
+    save("image", image)
+    save("disk", b"x" * 4096)
+    with loop_device("disk") as device:
+        node = device_node(device, stat.S_IFBLK)
+        expect_end(tool.run(f"write flat 8 {node}"), 2)
+        expect_end(tool.run(f"slots {node} fresh 2"), 2)
+        expect(stat.S_ISBLK(os.stat(node).st_mode), "the block device is replaced")
+        held = os.open(device, os.O_RDONLY | os.O_EXCL)
+        expect_end(tool.run(f"store image {device}"), 3, "busy")
+        os.close(held)
+        expect_end(tool.run(f"store {device} {device}"), 2)
+        done = tool.run(f"store image {device}")
+        expect(done.stdout == "ok written 2 skipped 6\n", "a block device is stored on", done)
+        with open(device, "rb") as file:
+            expect(file.read() == b"abcd" * 256 + b"x" * 3072, "what the block device holds")
+
+
+def links(tool: Tool) -> None:
+    """The file that a link leads to is replaced; owner and mode stay."""
+    os.mkdir("far")
+    save("far/real", TRIED)
+    os.chmod("far/real", 0o640)
+    if os.geteuid() == 0:
+        os.chown("far/real", 12, 34)
+    before = os.stat("far/real")
+    os.symlink("far/real", "link")
+    expect_end(tool.run("slots link start"), 0)
+    after = os.stat("far/real")
+    expect(os.path.islink("link") and read("far/real")[3] == 2, "the real record")
+    expect((before.st_mode, before.st_uid, before.st_gid) == (after.st_mode, after.st_uid, after.st_gid),
+           "owner and mode of the record")
+    os.symlink("nowhere", "dangling")
+    expect_end(tool.run("slots dangling fresh 2"), 2, "link to nothing")
+    os.link("far/real", "other")
+    expect_end(tool.run("slots other start"), 2, "hard links")
+    expect(read("other")[3] == 2, "a record with two names is changed")
+
+
+@contextlib.contextmanager
+def waiting(tool: Tool, words: str, **faults: str) -> "Iterator[subprocess.Popen[bytes]]":
+    """The tool, held up where it puts a file on the disk; killed at the end."""
+    process = tool.begin(words, WAIT="mark", **faults)
+    try:
+        end = time.monotonic() + LONGEST_WAIT
+        while not os.path.exists("mark") and process.poll() is None and time.monotonic() < end:
+            time.sleep(0.005)
+        expect(os.path.exists("mark"), f"{words}: the tool did not come so far")
+        yield process
+    finally:
+        process.kill()
+        process.communicate(timeout=LONGEST_WAIT)
+        with contextlib.suppress(FileNotFoundError):
+            os.remove("mark")
+
+
+def locks(tool: Tool) -> None:
+    """A file that another program holds is left alone, with clear words."""
+    save("tried", TRIED)
+    for kind in (fcntl.LOCK_SH, fcntl.LOCK_EX):
+        with locked("cut", kind):
+            expect_end(tool.run("store p2 cut"), 3, "is busy")
+            expect_end(tool.run("store p2 cut --dry-run"), 3, "is busy")
+        with locked("tried", kind):
+            expect_end(tool.run("slots tried start"), 3, "is busy")
+            expect_end(tool.run("slots tried fresh 2"), 3, "is busy")
+            expect_end(tool.run("slots tried show"), 0)
+        with locked("p2", kind):
+            status = 0 if kind == fcntl.LOCK_SH else 3
+            expect_end(tool.run("judge p2 12"), status)
+            expect_end(tool.run("write flat 8 p2"), 3, "is busy")
+    expect(read("cut") == FILES["cut"] and read("tried") == TRIED and read("p2") == FILES["p2"], "files while held")
+
+
+def locks_to_the_end(tool: Tool) -> None:
+    """Files are held until all is on the disk."""
+    save("tried", TRIED)
+    for words, others in (
+        ("store p2 cut", ("store p2 cut", "store p2 cut --dry-run", "write flat 8 p2")),
+        ("slots tried start", ("slots tried start", "slots tried confirm", "slots tried fresh 2")),
+        ("write flat 8 p6", ("write flat 8 p6", "judge p6 12", "write p2 4 flat")),
+    ):
+        with waiting(tool, words):
+            for other in others:
+                expect_end(tool.run(other), 3, "is busy")
+    expect(read("tried") == TRIED and read("p6") == FILES["p6"], "files that were being replaced")
+
+
+def starts_at_once(tool: Tool) -> None:
+    """Of several starts at one time each takes its own try, or none."""
+    for _ in range(6):
+        save("tried", bytes([1, 0, 0, 7]) + TRIED[4:])
+        running = [tool.begin("slots tried start") for _ in range(6)]
+        ended = [(process.communicate(timeout=LONGEST_WAIT), process.returncode) for process in running]
+        expect(all(status in (0, 3) for _, status in ended), f"statuses {ended}")
+        taken = sum(status == 0 for _, status in ended)
+        expect(taken > 0 and read("tried")[3] == 7 - taken, f"{taken} tries taken, {read('tried')[3]} left")
+
+
+def replaced_at_once(tool: Tool) -> None:
+    """A file that takes the place of the old one meanwhile is worked on, and one that takes a free place is kept."""
+    save("tried", TRIED)
+    save("another", bytes([1, 0, 0, 7]) + TRIED[4:])
+    expect_end(tool.run("slots tried start", SWAP="tried"), 0)
+    expect(read("tried")[3] == 6, f"{read('tried')[3]} tries are left of the record that took the place")
+    for faults in ({}, {"NO_NAMELESS": "1"}):
+        with waiting(tool, "write flat 8 image", **faults) as process:
+            save("image", b"another's")
+            os.remove("mark")
+            words = process.communicate(timeout=LONGEST_WAIT)[1]
+        expect(process.returncode == 3 and b"is busy" in words, f"status {process.returncode}, {words!r}")
+        expect(read("image") == b"another's", "a file that was just made")
+        os.remove("image")
+
+
+def changed_image(tool: Tool) -> None:
+    """An image that changes while it is stored is told, and is no success."""
+    done = tool.run("store p2 cut", TOUCH="p2")
+    expect_end(done, 3, "the image changed while it was stored; store it again")
+    expect(done.stdout == "", "an answer for a changed image", done)
+    expect_end(tool.run("write flat 8 image", CUT="flat"), 3, "to its end")
+    save("lost", FILES["p2"])
+    expect_end(tool.run("judge lost 12", CUT="lost"), 3, "to its end")
+    lost = json.loads(tool.run("judge kinds 40 --json", CUT="kinds").stdout)
+    expect(lost["status"] == 3, "an object for a lost file")
+    for words in ("judge p2 12", "judge p6 12", "list p2", "map p2", "sections p2", "store p2 cut --dry-run",
+                  "store p6 cut --dry-run", "write p2 4 image", "store p2 cut", "store p6 cut"):
+        name = words.split()[1]
+        save(name, FILES[name])
+        expect_end(tool.run(words, GROW=name), 3, "changed while it was")
+
+
+def lost_partitions(tool: Tool) -> None:
+    """A partition that is replaced, removed or cut while it is stored on is told, and is no success."""
+    for lose in (
+        lambda: os.rename("long", "fresh"), lambda: os.remove("fresh"), lambda: os.truncate("fresh", 2),
+        lambda: os.truncate("fresh", 99),
+    ):
+        save("fresh", FILES["cut"])
+        with waiting(tool, "store p2 fresh") as process:
+            lose()
+            os.remove("mark")
+            said, words = process.communicate(timeout=LONGEST_WAIT)
+        expect(process.returncode == 3 and said == b"" and b"store the image again" in words,
+               f"status {process.returncode}, {said!r} {words!r}")
+
+
+def bad_disk(tool: Tool) -> None:
+    """A disk that is full or fails is told; records, images and pictures stay as they were, and nothing is left."""
+    save("tried", TRIED)
+    before = set(os.listdir("."))
+    kept = [(words, {fault: "1"}, "nothing is changed") for fault in ("FULL", "BAD_FILE")
+            for words in ("slots tried start", "slots new fresh 2", "map p2 --svg new", "map p2 --svg p6")]
+    for words, faults, said in kept + [
+        ("write flat 8 p6", {"BAD_FILE": "1"}, "nothing is changed"),
+        ("write flat 8 new", {"BAD_FILE": "1", "NO_NAMELESS": "1"}, "nothing is changed"),
+        ("store p2 cut", {"BAD_FILE": "1"}, "may not be on the disk"),
+    ]:
+        done = tool.run(words, **faults)
+        expect_end(done, 3, said)
+        expect(done.stdout == "", f"{words}: an answer", done)
+    expect(set(os.listdir(".")) == before, "what is left over")
+    expect(read("tried") == TRIED and read("p6") == FILES["p6"], "what stood there")
+
+
+def pipes_as_images(tool: Tool) -> None:
+    """A pipe is refused, and nobody waits for it; so is a file that holds more than it says."""
+    if os.path.exists("/proc/version"):
+        expect_end(tool.run("write /proc/version 4 image"), 2, "length")
+    os.mkfifo("pipe")
+    for words in ("judge pipe 12", "store pipe cut", "store pipe cut --dry-run", "list pipe", "map pipe",
+                  "sections pipe", "write pipe 4096 image", "slots pipe show", "judge /dev/stdin 12"):
+        expect_end(tool.run(words, "</dev/null" if "stdin" in words else ""), 2)
+
+
+def has_nameless() -> bool:
+    """Whether the file system knows files without a name."""
+    try:
+        os.close(os.open(".", os.O_TMPFILE | os.O_RDWR, 0o600))
+    except OSError:
+        return False
+    return True
+
+
+def interrupted_writes(tool: Tool) -> None:
+    """A write that is ended by a signal leaves nothing, with nameless files even by a kill."""
+    before = set(os.listdir("."))
+    numbers = [signal.SIGINT, signal.SIGTERM, signal.SIGHUP]
+    for faults, ends in (({}, numbers + [signal.SIGKILL] * has_nameless()), ({"NO_NAMELESS": "1"}, numbers)):
+        for number in ends:
+            with waiting(tool, "write flat 8 image", **faults) as process:
+                names = [name for name in os.listdir(".") if name.startswith(".tarpaulark")]
+                expect(bool(names) or not faults, "a file with a name")
+                process.send_signal(number)
+                expect(process.wait(LONGEST_WAIT) == -number, f"ended with {process.returncode}")
+            expect(set(os.listdir(".")) == before, f"left over: {set(os.listdir('.')) - before}")
+    if has_nameless():
+        expect(tool.run("write flat 8 p6", SIGNAL_NAMED="15").returncode == -signal.SIGTERM, "a signal")
+        expect(set(os.listdir(".")) == before and read("p6") == FILES["p6"], "a name that is dropped again")
+        expect(tool.run("write flat 8 image", SIGNAL_NAMED="9").returncode == -signal.SIGKILL, "a kill")
+        expect(set(os.listdir(".")) == before | {"image"}, "a free name is given at once")
+        os.remove("image")
+    for words in ("write flat 8 image", "write flat 8 image"):
+        expect_end(tool.run(words, NO_NAMELESS="1"), 0)
+    expect(set(os.listdir(".")) == before | {"image"} and read("image") == P9_IMAGE, "the image that is made")
+
+
+def folder_not_synced(tool: Tool) -> None:
+    """After a start that is done the words do not say to run it again."""
+    save("tried", TRIED)
+    done = tool.run("slots tried start", BAD_FOLDER="1")
+    expect_end(done, 3, "spent")
+    expect("again" not in done.stderr and done.stdout == "starts a\n", "what is said", done)
+    expect(read("tried")[3] == 2, "the try")
+    told = json.loads(tool.run("slots tried start --json", BAD_FOLDER="1").stdout)
+    expect((told["answer"], told["slot"], told["status"]) == ("starts", "a", 3), f"the object {told}")
+    expect_end(tool.run("write flat 8 image", BAD_FOLDER="1"), 3, "again")
+
+
+def checksum_of_0(tool: Tool) -> None:
+    """Refusal 11 says more where the header states 0."""
+    words = "a checksum of 0 is taken as stated"
+    expect_end(tool.run("judge p8 12"), 1, words)
+    expect_end(tool.run("store p8 cut"), 1, words)
+    expect_end(tool.run("list p8"), 1, words)
+    done = tool.run("judge wrong 12")
+    expect(done.returncode == 1 and words not in done.stderr, "a checksum that is stated", done)
+
+
+# What people look for.
+
+def help_and_version(tool: Tool) -> None:
+    """Help and version go to standard output."""
+    for words in ("--help", "-h", "store --help", "slots -h"):
+        done = tool.run(words)
+        expect(done.returncode == 0 and "Exit status: 0 done" in done.stdout and not done.stderr, words, done)
+    header = read(os.path.join(ROOT, "include", "tarpaulark.h")).decode("ascii")
+    version = re.search(r'#define TARPAULARK_VERSION "(.*)"', header)
+    assert version is not None
+    expect(tool.run("--version").stdout == f"tarpaulark {version.group(1)}\n", "the version")
+    expect_end(tool.run("stroe p2 part"), 2, "see tarpaulark --help")
+    expect_end(tool.run("store p2 part --limit=1"), 2, "see tarpaulark --help")
+
+
+def text_of_man(source: str) -> str:
+    """A man page as one line of text, without macros and fonts; what a macro of two fonts parts is joined."""
+    words = []
+    for line in re.sub(r"\\f[A-Z]|\\&", "", source).replace("\\-", "-").split("\n"):
+        macro = re.match(r"\.([A-Z]+) ", line)
+        parts = shlex.split(line[macro.end():]) if macro else [line]
+        words.append(("" if macro and len(macro.group(1)) == 2 else " ").join(parts))
+    return " ".join(" ".join(words).split())
+
+
+def same_words(tool: Tool) -> None:
+    """Help, README and man page name the same commands, options and exit statuses in the same words."""
+    told = tool.run("--help").stdout
+    usages = re.findall(r"^ *(?:usage:)? tarpaulark (.*)$", told, re.MULTILINE)
+    statuses = re.findall(r"^(?:Exit status:)? +([0-4]) (.*)$", told, re.MULTILINE)
+    expect(len(usages) == 9 and len(statuses) == 5, f"the help {told}")
+    man = text_of_man(read(os.path.join(ROOT, "host", "tarpaulark.1")).decode("ascii"))
+    readme = read(os.path.join(ROOT, "README.md")).decode("utf-8")
+    for usage in usages:
+        expect(f"tarpaulark {usage} " in man, f"the man page lacks {usage}")
+        expect(f"    {usage}  " in readme, f"README.md lacks {usage}")
+    for number, words in statuses:
+        expect(f"{number} {words}.".replace("`", "").lower() in man.lower(), f"the man page lacks {words}")
+        expect(f"| {number} | {words} |" in readme, f"README.md lacks {words}")
+    for option in ("--json", "-h", "--help", "--version", "--limit", "--dry-run", "--svg", "--"):
+        for name, text in (("the help", told), ("the man page", man), ("README.md", readme.replace("`", " "))):
+            expect(re.search(rf"(?<![\w-]){option}(?![\w-])", text) is not None, f"{name} lacks {option}")
+
+
+def not_printed(tool: Tool) -> None:
+    """What is done but cannot be printed is told by the status."""
+    save("fresh", FILES["cut"])
+    expect_end(tool.run("store p2 fresh", ">/dev/full"), 4, "what was asked is done")
+    expect(read("fresh") == LEFT["part"], "what was asked")
+    expect(tool.run("judge p6 12", ">/dev/full").returncode == 1, "a refusal")
+    expect_end(tool.run("--help", ">/dev/full"), 4)
+    expect_end(tool.run("list p2 --json", ">/dev/full"), 4)
+    process = tool.begin("list kinds")
+    assert process.stdout is not None
+    process.stdout.close()
+    expect(process.wait(timeout=LONGEST_WAIT) in (0, 4), "a reader that has gone")
+    if process.stderr is not None:
+        process.stderr.close()
+
+
+def numbers_in(value: Any) -> List[int]:
+    """All numbers of an object."""
+    if isinstance(value, (dict, list)):
+        items = value.values() if isinstance(value, dict) else value
+        return [number for item in items for number in numbers_in(item)]
+    return [value] if isinstance(value, int) and not isinstance(value, bool) else []
+
+
+def same_in_json(tool: Tool) -> None:
+    """The object has each number that the text has, and the status."""
+    save("tried", TRIED)
+    for words in ("judge p2 12", "judge p6 12", "judge p8 12", "store p2 cut", "store p2 cut --limit 1",
+                  "store kinds long --dry-run", "store p6 cut", "list kinds", "list p6", "map kinds", "map p6",
+                  "write flat 8 image", "write flat 12 image", "sections boot", "sections flat",
+                  "slots tried show", "slots odd show", "slots tried fresh 5", "slots tried fresh 3"):
+        text, told = tool.run(words), tool.run(words + " --json")
+        found = json.loads(told.stdout)
+        expect(told.returncode == text.returncode == found["status"] and told.stderr == "", words, told)
+        expect(found["command"] == words.split()[0], words, told)
+        lines = text.stdout if text.returncode == 0 else text.stderr.split("\n")[0]
+        lines = "\n".join(line for line in lines.split("\n") if "a cell is" not in line and "##" not in line)
+        said = [int(number, 0) for number in re.findall(r"\b(?:0x[0-9a-f]+|[0-9]+)\b", lines)]
+        missing = set(said) - set(numbers_in(found))
+        expect(not missing, f"{words}: the object lacks {missing}", told)
+    for words, status in (("judge missing 1 --json", 3), ("judge --json", 2), ("--json", 2), ("x --json", 2)):
+        told = tool.run(words)
+        expect(json.loads(told.stdout)["status"] == told.returncode == status and not told.stderr, words, told)
+    expect(json.loads(tool.run("slots tried start --json").stdout)["slot"] == "a", "a start")
+
+
+KIND_NAMES = {0xCAC1: "raw", 0xCAC2: "fill", 0xCAC3: "skip"}
+SIGNS = {"raw": "#", "fill": "=", "skip": ".", "unknown": "?"}
+
+
+def chunks_of(image: bytes) -> List[Tuple[int, str, int, Optional[int]]]:
+    """First block, kind, blocks and fill word of each chunk, by the reference."""
+    header = sparse.read_header(image)
+    found, at, first = [], header.file_header_size, 0
+    for chunk in sparse.chunks_of(image):
+        kind = KIND_NAMES.get(int.from_bytes(image[at:at + 2], "little"), "unknown")
+        word = int.from_bytes(image[chunk.data_at:chunk.data_at + 4], "little") if kind == "fill" else None
+        found.append((first, kind, chunk.blocks, word))
+        at, first = chunk.end, first + chunk.blocks
     return found
 
 
+def as_the_reference(tool: Tool) -> None:
+    """Chunks, cells and kept bytes of random images are those of the reference."""
+    rng = random.Random(12)
+    for _ in range(12):
+        image = cases_store.random_image(rng)
+        save("image", image)
+        header = sparse.read_header(image)
+        length = header.total_blocks * header.block_size + rng.randrange(9)
+        save("whole", bytes(length))
+        if not isinstance(sparse.judge(image, length), sparse.Accepted):
+            expect_end(tool.run("list image"), 1)
+            continue
+        chunks = chunks_of(image)
+        told = json.loads(tool.run("list image --json").stdout)["list"]
+        expect([(c["first"], c["kind"], c["blocks"], c.get("word")) for c in told] == chunks, f"chunks {told}")
+        cells = "".join(SIGNS[kind] * blocks for _, kind, blocks, _ in chunks)
+        expect(json.loads(tool.run("map image --json").stdout)["cells"] == cells, f"cells, not {cells}")
+        kept = json.loads(tool.run("store image whole --dry-run --json").stdout)["kept"]
+        bytes_kept = "".join("k" if sign in ".?" else "s" for sign in cells for _ in range(header.block_size))
+        bytes_kept += "k" * (length - len(bytes_kept))
+        spans = [(match.start(), match.end()) for match in re.finditer("k+", bytes_kept)]
+        expect([(span["from"], span["before"]) for span in kept] == spans, f"kept bytes {kept}, not {spans}")
+
+
+def names_of_any_bytes(tool: Tool) -> None:
+    """Objects and pictures are whole whatever a file is called, and no name steers the terminal."""
+    for name in (b"a\"b\\c\n\x01\x7f", "höhe-距離".encode("utf-8"), b"\xff\xc3\xe2\x82", b"<&]]>",
+                 b"\xed\xa0\x80", b"\xf4\x90\x80\x80", b"\xef\xbf\xbe", b"\xc2\x9b31m\x1b[31m", b"long" * 50):
+        done = tool.run_bytes(b"judge", name, b"1", b"--json")
+        expect(json.loads(done.stdout.decode("utf-8"))["status"] == 3, f"the object for {name!r}", done)
+        for text in (done.stdout, tool.run_bytes(b"judge", name, b"1").stderr):
+            controls = re.findall("[\0-\x1f\x7f-\x9f]", text.decode("utf-8"))
+            expect(controls == ["\n"], f"what is said of {name!r}: {text!r}")
+        with open(name, "wb") as file:
+            file.write(FILES["p2"])
+        done = tool.run_bytes(b"map", name, b"--svg", b"picture.svg")
+        expect(done.returncode == 0, f"a picture of {name!r}", done)
+        lines = xml.etree.ElementTree.parse("picture.svg").iter("{http://www.w3.org/2000/svg}text")
+        expect(max(len(line.text or "") for line in lines) < 50, f"a picture that has no room for {name!r}")
+
+
+def long_images(tool: Tool) -> None:
+    """Images longer than the lister reads, and of more blocks than there are cells."""
+    plans = [build.raw(bytes(range(256)) * 16, 4096), build.skip(1), build.fill(b"tarp", 700)] * 30
+    save("image", build.sparse_image(4096, plans))
+    expect(len(json.loads(tool.run("list image --json").stdout)["list"]) == 90, "chunks of a long image")
+    told = json.loads(tool.run("map image --svg picture.svg --json").stdout)
+    expect(told["cell"] == 21 and len(told["cells"]) == 1003, f"cells of {told['cell']} blocks")
+    expect(told["cells"].count("%") == 30 and set(told["cells"]) == set("%="), "one kept block shows in its cell")
+    picture = xml.etree.ElementTree.parse("picture.svg")
+    notes = [note.text or "" for note in picture.iter("{http://www.w3.org/2000/svg}title")]
+    expect(len(notes) == 1 + 1003 and "kept 1 " in notes[1] + " ", f"notes of the SVG, {notes[:2]}")
+    vast = build.sparse_image(65536, [build.skip(2**31), build.fill(b"\0\0\0\1", 2**31 - 1)])
+    save("vast", vast)
+    expect(tool.run("list vast").stdout.endswith("ok written 2147483647 skipped 2147483648\n"), "a vast image")
+    expect(len(json.loads(tool.run("map vast --json").stdout)["cells"]) == 1024, "cells of a vast image")
+
+
+CHECKS: Tuple[Callable[[Tool], None], ...] = (
+    closed_descriptors, printed_into_files, kinds_of_targets, block_devices, links, locks, locks_to_the_end,
+    starts_at_once, replaced_at_once, changed_image, lost_partitions, bad_disk, pipes_as_images, interrupted_writes,
+    folder_not_synced, checksum_of_0,
+    help_and_version, same_words, not_printed, same_in_json, as_the_reference, names_of_any_bytes, long_images,
+)
+
+
+# The run.
+
+@contextlib.contextmanager
+def scratch() -> Iterator[None]:
+    """A folder with the files, which is the current one and is removed again."""
+    old = os.getcwd()
+    with tempfile.TemporaryDirectory() as folder:
+        os.chdir(folder)
+        try:
+            for name, data in FILES.items():
+                save(name, data)
+            yield
+        finally:
+            os.chdir(old)
+
+
+def faults_of_cases(tool: Tool) -> List[str]:
+    """What the tool does in the cases that it should not."""
+    found = []
+    for case in CASES:
+        done = tool.run(case.words)
+        text = done.stdout.rstrip("\n") if done.returncode == 0 else done.stderr.split("\n")[0]
+        if done.returncode != case.status or (case.status < 2 and text != case.text):
+            found.append(f"{case.words}: status {done.returncode}, {text!r}")
+        if case.status >= 2 and (done.stdout or not done.stderr):
+            found.append(f"{case.words}: should say what to do, on standard error alone")
+    names = set(os.listdir("."))
+    found += [f"{name} is left over" for name in names - set(FILES) - set(LEFT)]
+    return found + [f"{name} does not hold what it should" for name, data in LEFT.items() if read(name) != data]
+
+
+def faults_of_checks(tool: Tool) -> Tuple[List[str], int]:
+    """What the checks find, and how many were made; one that cannot be made says why."""
+    found, made = [], 0
+    for check in CHECKS:
+        with scratch():
+            try:
+                check(tool)
+                made += 1
+            except CannotCheck as reason:
+                print(f"host: left out {check.__name__}: {reason}")
+            except (AssertionError, subprocess.TimeoutExpired, ValueError, LookupError) as fault:
+                found.append(f"{check.__name__}: {fault}")
+    return found, made
+
+
+def built_preload(folder: str) -> Optional[str]:
+    """The file that brings about faults, where there is a compiler."""
+    path = os.path.join(folder, "preload.so")
+    compiler = os.environ.get("CC", "gcc")
+    if shutil.which(compiler.split()[0]) is None:
+        return None
+    words = [*compiler.split(), "-shared", "-fPIC", "-O1", "-o", path, os.path.join(HERE, "preload.c"), "-ldl"]
+    return path if subprocess.run(words, check=False).returncode == 0 else None
+
+
+def agrees(path: str, preload: Optional[str]) -> bool:
+    """Runs all cases and checks with a tool, and says what they find."""
+    tool = Tool(os.path.abspath(path), preload)
+    with scratch():
+        found = faults_of_cases(tool)
+    more, made = faults_of_checks(tool)
+    for fault in found + more:
+        print(f"host: {path}: {fault}")
+    if not found + more:
+        print(f"host: {len(CASES)} cases and {made} checks agree ({os.path.basename(path)})")
+    return not found + more
+
+
 def main() -> int:
-    """Works in a folder that is removed again."""
-    if len(sys.argv) != 2:
+    """Runs each tool that was built."""
+    if len(sys.argv) < 2:
         print(__doc__, file=sys.stderr)
         return 2
+    all_agree = True
     with tempfile.TemporaryDirectory() as folder:
-        for name, data in FILES.items():
-            with open(os.path.join(folder, name), "wb") as file:
-                file.write(data)
-        found = faults(os.path.abspath(sys.argv[1]), folder)
-    for fault in found:
-        print("host: " + fault)
-    if not found:
-        print(f"host: {len(CASES)} cases agree")
-    return 1 if found else 0
+        preload = built_preload(folder)
+        for path in sys.argv[1:]:
+            if os.path.exists(path):
+                all_agree = agrees(path, preload) and all_agree
+            else:
+                print(f"host: left out {path}: it was not built")
+    return 0 if all_agree else 1
 
 
 if __name__ == "__main__":

@@ -1,14 +1,17 @@
 #!/usr/bin/env bash
 # Tries build/tarpaulark against simg2img, img2simg and mkbootimg (Debian's packages
 # android-sdk-libsparse-utils and mkbootimg). A tool that is not installed is skipped
-# with a line. Exit status: 0 where all agree, 1 where something disagrees.
+# with a line. Where a peer breaks a rule of the format, its image must be refused with
+# the number of that rule: such a try is counted as refused as expected, all others as
+# agreeing. Exit status: 0 where all come out so, 1 where something disagrees.
 set -euo pipefail
 
 tool=$(cd "$(dirname "$0")/.." && pwd)/build/tarpaulark
 small_blocks=(4 64 256)
 blocks=(1024 1028 4096 5000 65536)
 pages=(2048 4096 8192 16384)
-tried=0
+header_lengths=(1632 1648 1660 1580 1584)
+declare -A came_out=([agrees]=0 [11]=0 [24]=0)
 failed=0
 
 if [ ! -x "$tool" ]; then
@@ -19,12 +22,13 @@ folder=$(mktemp -d)
 trap 'rm -rf "$folder"' EXIT
 cd "$folder"
 
-# Runs a command quietly; says what disagrees where it fails.
-agree() {
-    local what=$1
-    shift
-    tried=$((tried + 1))
-    if ! "$@" >log 2>&1; then
+# Runs a command quietly and counts how it comes out, agrees or refused with a number; says where it does not.
+expect() {
+    local outcome=$1 what=$2
+    shift 2
+    if "$@" >log 2>&1; then
+        came_out[$outcome]=$((came_out[$outcome] + 1))
+    else
         echo "disagrees: $what"
         sed 's/^/    /' log
         failed=1
@@ -78,38 +82,122 @@ same_but_checksum() {
         && cmp -n 4 -i 24:0 "$1.theirs" /dev/zero && cmp -i 28 "$1.image" "$1.theirs"
 }
 
-# So the judge answers 11, but for no data, whose checksum is 0.
-judged_by_checksum() {
-    local want="refused 11 at 24" said
-    [ -s "$1" ] || want="ok written 0 skipped 0"
-    said=$("$tool" judge "$1.theirs" "$(stat -c %s "$1")" 2>&1 || true)
+# The first line of what the tool says of a file.
+says() {
+    local want=$1 said
+    shift
+    said=$("$tool" "$@" 2>&1 || true)
     echo "wanted: $want; said: $said"
     [ "${said%%$'\n'*}" = "$want" ]
 }
 
-make_sections() {
-    head -c "$1" /dev/urandom >kernel
-    head -c "$2" /dev/urandom >ramdisk
-    head -c "$3" /dev/urandom >second
+# A checksum of 0 is taken as stated, so the judge answers 11, but for no data, whose checksum is 0.
+judge_theirs() {
+    local length
+    length=$(stat -c %s "$1")
+    if [ "$length" = 0 ]; then
+        expect agrees "judge of img2simg's image, $1" says "ok written 0 skipped 0" judge "$1.theirs" 0
+    else
+        expect 11 "judge of img2simg's image, $1" says "refused 11 at 24" judge "$1.theirs" "$length"
+    fi
 }
 
-# Each section lies in the image where the tool says, at its file's size, in order.
+# Files for the sections that mkbootimg takes; an empty one is a section that is left out.
+make_sections() {
+    local name
+    for name in kernel ramdisk second recovery dtb; do
+        head -c "$1" /dev/urandom >"$name"
+        shift
+    done
+    : >signature
+}
+
+# Makes the file boot of a header version and a page size from those sections.
+make_boot() {
+    local words=(--header_version "$1" --pagesize "$2" --kernel kernel --ramdisk ramdisk -o boot)
+    [ "$1" -ge 3 ] || words+=(--second second)
+    [ "$1" != 1 ] && [ "$1" != 2 ] || [ ! -s recovery ] || words+=(--recovery_dtbo recovery)
+    [ "$1" != 2 ] || words+=(--dtb dtb)
+    mkbootimg "${words[@]}"
+}
+
+# The header size that boot states, or nothing for version 0, which states none.
+stated_size() {
+    case $1 in
+    1 | 2) od -An -tu4 -j 1644 -N 4 boot ;;
+    3 | 4) od -An -tu4 -j 20 -N 4 boot ;;
+    esac | tr -d ' '
+}
+
+# Each section lies in boot where the tool says, at its file's size, in order.
 same_sections() {
-    local name at size names=
-    mkbootimg --header_version 0 --pagesize "$1" --kernel kernel --ramdisk ramdisk \
-        --second second -o boot || return 1
+    local names=() name at size want=(version kernel ramdisk)
+    [ "$1" -ge 3 ] || want+=(second)
+    [ "$1" != 1 ] && [ "$1" != 2 ] || want+=(recovery)
+    [ "$1" != 2 ] || want+=(dtb)
+    [ "$1" != 4 ] || want+=(signature)
     "$tool" sections boot >said || return 1
     cat said
     while read -r name at size; do
-        names+=" $name"
+        names+=("$name")
         if [ "$name" = version ]; then
-            [ "$at" = 0 ] || return 1
+            [ "$at" = "$1" ] || return 1
         else
             [ "$size" = "$(stat -c %s "$name")" ] || return 1
             cmp -n "$size" -i "$at:0" boot "$name" || return 1
         fi
     done <said
-    [ "$names" = " version kernel ramdisk second" ]
+    [ "${names[*]}" = "${want[*]}" ]
+}
+
+# A boot image that states another header size than its version has must be refused with 24.
+try_boot() {
+    local what="mkbootimg, version $1, page $2, sizes $3" sizes size
+    read -ra sizes <<<"$3"
+    make_sections "${sizes[@]}"
+    if ! make_boot "$1" "$2" >log 2>&1; then
+        echo "disagrees: $what: mkbootimg makes none"
+        failed=1
+        return
+    fi
+    size=$(stated_size "$1")
+    if [ -z "$size" ] || [ "$size" = "${header_lengths[$1]}" ]; then
+        expect agrees "$what" same_sections "$1"
+    else
+        expect 24 "$what" says "refused 24 at 0" sections boot
+    fi
+}
+
+# Every header version that this mkbootimg makes, at every page size, sections empty and not.
+try_version() {
+    local version=$1 recovery=$2 page sizes
+    for page in "${pages[@]}"; do
+        for sizes in "1 1 1" "$page $page $page" "$((page + 1)) $((3 * page - 1)) 5" "70000 0 9000" "9 70000 0"; do
+            try_boot "$version" "$page" "$sizes 0 $((page + 7))"
+            [ "$recovery" = 0 ] || try_boot "$version" "$page" "$sizes 4097 3"
+        done
+    done
+}
+
+try_mkbootimg() {
+    local version recovery
+    for version in 0 1 2 3 4; do
+        make_sections 1 1 1 0 1
+        if ! make_boot "$version" 2048 >log 2>&1; then
+            echo "skipped header version $version: this mkbootimg makes none ($(tail -n 1 log))"
+            continue
+        fi
+        recovery=0
+        if [ "$version" = 1 ] || [ "$version" = 2 ]; then
+            make_sections 1 1 1 1 1
+            if make_boot "$version" 2048 >log 2>&1; then
+                recovery=1
+            else
+                echo "skipped recovery in header version $version: this mkbootimg makes none ($(tail -n 1 log))"
+            fi
+        fi
+        try_version "$version" "$recovery"
+    done
 }
 
 has_simg2img=1
@@ -121,29 +209,25 @@ if [ $((has_simg2img + has_img2simg)) -gt 0 ]; then
     make_flat "${small_blocks[@]}" "${blocks[@]}"
     for block in "${small_blocks[@]}" "${blocks[@]}"; do
         for flat in {empty,random,fill,mixed}."$block"; do
-            agree "write, $flat" "$tool" write "$flat" "$block" "$flat.image"
-            [ $has_simg2img = 0 ] || agree "simg2img, $flat" comes_back "$flat"
+            expect agrees "write, $flat" "$tool" write "$flat" "$block" "$flat.image"
+            [ $has_simg2img = 0 ] || expect agrees "simg2img, $flat" comes_back "$flat"
             if [ $has_img2simg = 1 ] && [ "$block" -ge 1024 ]; then
-                agree "img2simg, $flat" same_but_checksum "$flat" "$block"
-                agree "judge of img2simg's image, $flat" judged_by_checksum "$flat"
+                expect agrees "img2simg, $flat" same_but_checksum "$flat" "$block"
+                judge_theirs "$flat"
             fi
         done
     done
 fi
 
 if installed mkbootimg mkbootimg; then
-    for page in "${pages[@]}"; do
-        for sizes in "1 1 1" "$page $page $page" "$((page + 1)) $((3 * page - 1)) 5" "70000 0 9000" "9 70000 0"; do
-            read -ra each <<<"$sizes"
-            make_sections "${each[@]}"
-            agree "mkbootimg, page $page, sizes $sizes" same_sections "$page"
-        done
-    done
+    try_mkbootimg
 fi
 
-if [ "$tried" = 0 ]; then
+if [ $((came_out[agrees] + came_out[11] + came_out[24] + failed)) = 0 ]; then
     echo "peers: nothing tried"
 elif [ "$failed" = 0 ]; then
-    echo "peers: $tried tries, all agree"
+    echo "peers: ${came_out[11]} refused as expected with 11 (img2simg states a checksum of 0)"
+    echo "peers: ${came_out[24]} refused as expected with 24 (mkbootimg states another header size)"
+    echo "peers: ${came_out[agrees]} agree"
 fi
 exit "$failed"

@@ -1,0 +1,314 @@
+#include "answer.h"
+
+#include "characters.h"
+#include "refusals.h"
+
+#include <inttypes.h>
+#include <stdio.h>
+#include <stdlib.h>
+#include <string.h>
+
+enum { DEEPEST = 4 };
+
+static struct {
+    bool json;
+    bool begun;           /* the object has been opened */
+    bool after;           /* something stands before, on the line or in the object */
+    bool ended;
+    const char *command;
+    char closers[DEEPEST];
+    size_t depth;
+} answer;
+
+void answer_in_json(void)
+{
+    answer.json = true;
+}
+
+void answer_to(const char *command)
+{
+    answer.command = command;
+}
+
+static void put_string(const char *text)
+{
+    putchar('"');
+    while (*text != '\0') {
+        int length = character_length(text);
+
+        if (length == 0)
+            fputs("\\ufffd", stdout);
+        else if (*text == '"' || *text == '\\')
+            printf("\\%c", *text);
+        else if (is_control(text))
+            printf("\\u%04x", (unsigned)(unsigned char)text[length - 1]);
+        else
+            printf("%.*s", length, text);
+        text += length == 0 ? 1 : length;
+    }
+    putchar('"');
+}
+
+static void put_key(const char *name)
+{
+    if (answer.after)
+        putchar(',');
+    answer.after = true;
+    if (name != NULL) {
+        put_string(name);
+        putchar(':');
+    }
+}
+
+/* Comes before each value: the name, and what parts it from the value before. */
+static void begin_member(const char *name, bool named)
+{
+    if (answer.json && !answer.begun) {
+        answer.begun = true;
+        putchar('{');
+        put_key("command");
+        put_string(answer.command == NULL ? "" : answer.command);
+    }
+    if (answer.json) {
+        put_key(name);
+        return;
+    }
+    if (answer.after)
+        putchar(' ');
+    answer.after = true;
+    if (named)
+        printf("%s ", name);
+}
+
+void say_word(const char *word)
+{
+    if (answer.json)
+        return;
+    fputs(word, stdout);
+    answer.after = true;
+}
+
+static void put_text(const char *text)
+{
+    if (answer.json)
+        put_string(text);
+    else
+        fputs(text, stdout);
+}
+
+void say_text(const char *name, const char *text)
+{
+    begin_member(name, true);
+    put_text(text);
+}
+
+void say_plain(const char *name, const char *text)
+{
+    begin_member(name, false);
+    put_text(text);
+}
+
+void say_letter(const char *name, char letter)
+{
+    const char text[] = {letter, '\0'};
+
+    say_plain(name, text);
+}
+
+void say_number(const char *name, uint64_t value)
+{
+    begin_member(name, true);
+    printf("%" PRIu64, value);
+}
+
+void say_flag(const char *name, bool set)
+{
+    if (!answer.json && !set)
+        return;
+    begin_member(name, false);
+    fputs(!answer.json ? name : set ? "true" : "false", stdout);
+}
+
+void say_column(const char *name, int width, uint64_t value)
+{
+    begin_member(name, false);
+    printf("%*" PRIu64, answer.json ? 0 : width, value);
+}
+
+void say_name_column(const char *name, int width, const char *text)
+{
+    begin_member(name, false);
+    if (answer.json)
+        put_string(text);
+    else
+        printf("%-*s", width, text);
+}
+
+void say_hex(const char *name, uint32_t value, bool named)
+{
+    begin_member(name, named);
+    printf(answer.json ? "%" PRIu32 : "0x%08" PRIx32, value);
+}
+
+void say_line(const char *line)
+{
+    if (!answer.json)
+        puts(line);
+}
+
+void say_only_json(const char *name, const char *text)
+{
+    if (answer.json)
+        say_text(name, text);
+}
+
+void end_line(void)
+{
+    if (answer.json)
+        return;
+    putchar('\n');
+    answer.after = false;
+}
+
+static void open_bracket(const char *name, char opener, char closer)
+{
+    if (!answer.json || answer.depth == DEEPEST)
+        return;
+    begin_member(name, false);
+    putchar(opener);
+    answer.closers[answer.depth++] = closer;
+    answer.after = false;
+}
+
+static void close_bracket(void)
+{
+    if (!answer.json || answer.depth == 0)
+        return;
+    putchar(answer.closers[--answer.depth]);
+    answer.after = true;
+}
+
+void open_list(const char *name)
+{
+    open_bracket(name, '[', ']');
+}
+
+void open_item(void)
+{
+    open_bracket(NULL, '{', '}');
+}
+
+void close_item(void)
+{
+    close_bracket();
+    end_line();
+}
+
+void close_list(void)
+{
+    close_bracket();
+}
+
+static void end_object(enum status status)
+{
+    static const char *const results[] = {
+        [DONE] = "ok", [REFUSED] = "refused", [BAD_USE] = "misused", [FAILED] = "failed"};
+
+    if (!answer.json || answer.ended)
+        return;
+    answer.ended = true;
+    while (answer.depth > 0)
+        close_bracket();
+    say_text("result", results[status]);
+    say_number("status", status);
+    puts("}");
+}
+
+/* The status to leave with, where not all may have been printed. */
+static enum status printed(enum status status)
+{
+    if (fflush(stdout) == 0 && ferror(stdout) == 0)
+        return status;
+    fputs("tarpaulark: not all could be printed", stderr);
+    fputs(status == DONE ? ", but what was asked is done\n" : "\n", stderr);
+    return status == DONE ? NOT_PRINTED : status;
+}
+
+enum status finish(enum status status)
+{
+    end_object(status);
+    return printed(status);
+}
+
+enum status finish_text(void)
+{
+    return printed(DONE);
+}
+
+enum status refuse(uint32_t number, uint64_t place, const char *more)
+{
+    const char *meaning = refusal_meaning(number);
+
+    if (answer.json) {
+        say_number("number", number);
+        say_number("place", place);
+        say_text("meaning", meaning);
+        if (more != NULL)
+            say_text("more", more);
+        return REFUSED;
+    }
+    fprintf(stderr, "refused %" PRIu32 " at %" PRIu64 "\n%s\n", number, place, meaning);
+    if (more != NULL)
+        fprintf(stderr, "%s\n", more);
+    return REFUSED;
+}
+
+/* A name may hold anything; what is no text, or would steer the terminal, shows as a question mark. */
+static void put_name(const char *name)
+{
+    while (*name != '\0') {
+        int length = character_length(name);
+        bool shows = length != 0 && !is_control(name);
+
+        fprintf(stderr, "%.*s", shows ? length : 1, shows ? name : "?");
+        name += length == 0 ? 1 : length;
+    }
+}
+
+static void explain(const char *path, const char *what, int error)
+{
+    if (answer.json) {
+        while (answer.depth > 0)
+            close_bracket();
+        if (path != NULL)
+            say_text("name", path);
+        say_text("words", what);
+        if (error != 0)
+            say_text("error", strerror(error));
+        return;
+    }
+    fflush(stdout);
+    fputs("tarpaulark: ", stderr);
+    put_name(path == NULL ? "" : path);
+    fprintf(stderr, "%s%s", path == NULL ? "" : ": ", what);
+    fprintf(stderr, error != 0 ? " (%s)\n" : "\n", strerror(error));
+}
+
+void misused(const char *path, const char *what)
+{
+    explain(path, what, 0);
+    if (!answer.json && path == NULL)
+        fputs("see tarpaulark --help\n", stderr);
+    exit((int)finish(BAD_USE));
+}
+
+void failed(const char *path, const char *what, int error)
+{
+    exit((int)finish(troubled(path, what, error)));
+}
+
+enum status troubled(const char *path, const char *what, int error)
+{
+    explain(path, what, error);
+    return FAILED;
+}

@@ -1,0 +1,31 @@
+/* The commands, and what the words after the tool's name ask of them. */
+#ifndef COMMANDS_H
+#define COMMANDS_H
+
+#include "answer.h"
+
+#include <stdbool.h>
+#include <stdint.h>
+
+enum { MOST_WORDS = 3 };
+
+struct request {
+    const char *words[MOST_WORDS + 1]; /* those that are no option; then null */
+    bool dry_run;
+    bool has_limit;
+    uint64_t limit;
+    const char *svg; /* null where there is none */
+};
+
+enum status judge(const struct request *request);
+enum status store(const struct request *request);
+enum status write_image(const struct request *request);
+enum status list(const struct request *request);
+enum status map(const struct request *request);
+enum status sections(const struct request *request);
+enum status slots(const struct request *request);
+
+/* A decimal number up to `most`. */
+bool as_number(const char *text, uint64_t most, uint64_t *number);
+
+#endif

@@ -1,0 +1,129 @@
+/* Storing a sparse image on a partition, or saying what that would keep. */
+#include "chunks.h"
+#include "commands.h"
+
+#include <errno.h>
+
+/* Bytes of the partition that are kept, as stretches that do not touch. */
+struct kept {
+    uint64_t from, before;
+};
+
+static void say_kept(const struct kept *kept)
+{
+    if (kept->from == kept->before)
+        return;
+    open_item();
+    say_word("kept");
+    say_number("from", kept->from);
+    say_number("before", kept->before);
+    close_item();
+}
+
+/* Keeps bytes: more of the last stretch, or a new one after the last is said. */
+static void keep(struct kept *kept, uint64_t from, uint64_t before)
+{
+    if (from == before)
+        return;
+    if (kept->before != from) {
+        say_kept(kept);
+        kept->from = from;
+    }
+    kept->before = before;
+}
+
+/* The blocks of a chunk that are stored where so many may be. */
+static uint64_t stored_of(const struct chunk *chunk, uint64_t limit)
+{
+    if (chunk->kind != TARPAULARK_RAW && chunk->kind != TARPAULARK_FILL)
+        return 0;
+    return chunk->blocks < limit ? chunk->blocks : limit;
+}
+
+/* All bytes that storing so many blocks would keep, up to the partition's end. */
+static void list_kept(struct walk *walk, uint64_t limit, uint64_t length)
+{
+    uint64_t block = walk->header[TARPAULARK_HEADER_BLOCK];
+    struct kept kept = {0, 0};
+    struct chunk chunk;
+
+    open_list("kept");
+    while (next_chunk(walk, &chunk)) {
+        uint64_t stored = stored_of(&chunk, limit);
+
+        limit -= stored;
+        keep(&kept, (chunk.first + stored) * block, (chunk.first + (uint64_t)chunk.blocks) * block);
+    }
+    keep(&kept, walk->first * block, length);
+    say_kept(&kept);
+    close_list();
+}
+
+static void say_stored(const struct request *request, const uint64_t *answer)
+{
+    say_word("ok");
+    if (request->has_limit) {
+        say_number("stored", answer[TARPAULARK_STORED]);
+    } else {
+        say_number("written", answer[TARPAULARK_WRITTEN]);
+        say_number("skipped", answer[TARPAULARK_SKIPPED]);
+    }
+    end_line();
+}
+
+static enum status try_dry(
+    const struct request *request, const struct mapped *image, const struct mapped *partition)
+{
+    uint64_t answer[TARPAULARK_JUDGE_ANSWER], limit;
+    struct walk walk;
+    uint32_t number = begin_walk(&walk, image, partition->length, answer);
+
+    expect_read(image);
+    if (number != 0)
+        return refuse_image(image, number, answer[TARPAULARK_PLACE]);
+    limit = answer[TARPAULARK_WRITTEN];
+    if (request->has_limit && request->limit < limit)
+        limit = answer[TARPAULARK_STORED] = request->limit;
+    say_stored(request, answer);
+    list_kept(&walk, limit, partition->length);
+    expect_read(image);
+    say_line("dry run: nothing is stored");
+    say_only_json("note", "dry run: nothing is stored");
+    return DONE;
+}
+
+static enum status store_now(
+    const struct request *request, const struct mapped *image, const struct mapped *partition)
+{
+    uint64_t answer[TARPAULARK_STORE_ANSWER];
+    uint32_t number;
+
+    if (request->has_limit)
+        number = tarpaulark_store_limited(
+            image->at, image->length, partition->at, partition->length, request->limit, answer);
+    else
+        number = tarpaulark_store(
+            image->at, image->length, partition->at, partition->length, answer);
+    if (number == 0 && !is_synced(partition))
+        failed(partition->path, "may not be on the disk; see to the disk, and run the same command again", errno);
+    expect_unchanged(image, "the image changed while it was stored; store it again");
+    if (number != 0)
+        return refuse_image(image, number, answer[TARPAULARK_PLACE]);
+    expect_in_place(partition);
+    say_stored(request, answer);
+    return DONE;
+}
+
+enum status store(const struct request *request)
+{
+    struct mapped image = open_file(request->words[0], READ_IMAGE);
+    struct mapped partition =
+        open_file(request->words[1], request->dry_run ? LOOK_AT_PARTITION : CHANGE_PARTITION);
+
+    if (is_same(&image.before, &partition.before))
+        misused(NULL, "IMAGE and PARTITION are one file: name two");
+    hold_file(&image);
+    hold_file(&partition);
+    return request->dry_run ? try_dry(request, &image, &partition)
+                            : store_now(request, &image, &partition);
+}
