@@ -1,7 +1,7 @@
 // The lister's lines, each put into a lent buffer from a place on.
-ghost use Rattle.text.specs.Put.{Put};
-ghost use Rattle.text.specs.Words.{labelled};
-ghost use Rattle.sparse_lines.specs.Lines.{kindWord, refusedLine, headerLine, chunkLine, lastLine};
+ghost use Rattle.text_rules.specs.Put.{Put};
+ghost use Rattle.text_rules.specs.Words.{labelled};
+ghost use Rattle.sparse_list_rules.specs.Lines.{kindWord, refusedLine, headerLine, chunkLine, lastLine};
 use sparse_rules::Chunk;
 use sparse_rules::Header;
 use sparse_rules::Kind;

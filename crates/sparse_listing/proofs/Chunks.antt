@@ -1,12 +1,12 @@
 -- The lines of the chunks, put one after the other between the first line and the last.
 -- Assumes nothing.
 use mathlib.Core.Path.{_≡_, refl, subst, _∙_}
-use mathlib.Core.List.{List, _∷_, _++_, append-assoc}
+use mathlib.Core.List.{List, _++_}
 use Prim.Native.Nat.{ℕ, _+_, _-_, _<_}
 use native.Mathlib.Omega.{arith}
 use lib.ListN.{length}
-use Rattle.text.specs.Put.{Put}
-use Rattle.text.proofs.Putting.{put-then, put-length}
+use Rattle.text_rules.specs.Put.{Put}
+use Rattle.text_rules.proofs.Putting.{put-then, put-length}
 use Rattle.sparse_rules.specs.declared.Header.{Header}
 use Rattle.sparse_rules.specs.declared.Cursor.{Cursor}
 use Rattle.sparse_rules.specs.declared.Chunk.{Chunk}
@@ -18,13 +18,9 @@ use Rattle.sparse_rules.specs.Judge.{judged}
 use Rattle.sparse_rules.proofs.Walk.{ended, read-on, never-refused}
 use Rattle.sparse_rules.proofs.Facts.{chunk-facts}
 use Rattle.sparse_rules.proofs.Image.{chunks-walked}
-use Rattle.sparse_lines.specs.Lines.{headerLine, chunkLine, lastLine}
-use Rattle.sparse_listing.specs.Listing.{partition, chunkLines, imageLines}
-
--- the lines of some chunks, and what comes after them: the first chunk's line, then those of the others
-lines-step : (first : ℕ) (k : Chunk) (ks : List Chunk) (y : List ℕ) → chunkLines first (k ∷ ks) ++ y ≡ chunkLine first k ++ (chunkLines (first + k .blocks) ks ++ y)
-unfolding chunkLines
-lines-step first k ks y = append-assoc (chunkLine first k) (chunkLines (first + k .blocks) ks) y
+use Rattle.sparse_list_rules.specs.Lines.{headerLine, chunkLine, lastLine}
+use Rattle.sparse_list_rules.specs.Listing.{partition, chunkLines, imageLines}
+use Rattle.sparse_list_rules.proofs.Listings.{lines-step}
 
 -- what is left to put of an accepted image after its first line, with so many blocks written and skipped
 pub record Left (s : List ℕ) (h : Header) (w k : ℕ) (out₀ : List ℕ) (at : ℕ) (out : List ℕ) (c : Cursor) (n next : ℕ) (ks : List Chunk) : Type 0 where

@@ -1,17 +1,12 @@
 // The lister's text: what it prints for an input, put into a lent buffer.
 ghost use mathlib.Core.Path.{_≡_};
 ghost use lib.ListN.{length};
-ghost use Rattle.sparse_listing.specs.Listing.{heldOf, held, output};
+ghost use Rattle.sparse_list_rules.specs.Listing.{heldOf, held, output};
 
 mod listing;
 
 use listing::put_listing;
-
-// How long the text is, and whether the buffer holds it whole.
-pub enum Listed {
-    Whole(usize),
-    TooShort(usize),
-}
+use sparse_list_rules::Listed;
 
 // Puts the text of an input at the start of a buffer, as much of it as has room.
 pub fn list(input: &[u8], out: &mut [u8]) -> Listed

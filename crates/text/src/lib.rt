@@ -3,8 +3,8 @@
 // Nothing is stored past the buffer's end; what would stand there is counted all the same, so that the answer says
 // how long a text is whatever room it had.
 ghost use mathlib.Core.List.{[], _∷_};
-ghost use Rattle.text.specs.Words.{decimal, labelled, line};
-ghost use Rattle.text.specs.Put.{Put};
+ghost use Rattle.text_rules.specs.Words.{decimal, labelled, line};
+ghost use Rattle.text_rules.specs.Put.{Put};
 
 // Puts bytes, and answers the place after them.
 pub fn put(out: &mut [u8], at: usize, bytes: &[u8]) -> usize

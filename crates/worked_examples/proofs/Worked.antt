@@ -22,9 +22,9 @@ use Rattle.sparse_write_rules.specs.Runs.{runs}
 use Rattle.sparse_write_rules.specs.Kinds.{allEqual, storedKind}
 use Rattle.sparse_write_rules.specs.Encode.{packed, chunkHeader, chunk, chunks, version, header, image, encode}
 use Rattle.sparse_write_rules.specs.Write as write
-use Rattle.text.specs.Words.{digitsUpTo, decimal, labelled}
-use Rattle.sparse_lines.specs.Lines.{refusedLine, headerLine, kindWord, chunkLine, lastLine}
-use Rattle.sparse_listing.specs.Listing.{chunkLines, listingOf, listing}
+use Rattle.text_rules.specs.Words.{digitsUpTo, decimal, labelled}
+use Rattle.sparse_list_rules.specs.Lines.{refusedLine, headerLine, kindWord, chunkLine, lastLine}
+use Rattle.sparse_list_rules.specs.Listing.{chunkLines, listingOf, listing}
 use Rattle.worked_examples.specs.Calls.{perform}
 use Rattle.worked_examples.specs.Table.{Worked}
 

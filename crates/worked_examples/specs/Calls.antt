@@ -12,7 +12,7 @@ use Rattle.boot_rules.specs.Tests as boot
 use Rattle.sparse_rules.specs.Answers as judge
 use Rattle.sparse_store_rules.specs.Store as store
 use Rattle.sparse_write_rules.specs.Write as write
-use Rattle.sparse_listing.specs.Listing.{listing}
+use Rattle.sparse_list_rules.specs.Listing.{listing}
 
 -- a call: an image stored on what a partition holds, flat bytes written at a block size into what an output holds, a boot image located, a slot record started, an image listed
 pub data Call : Type 0 where

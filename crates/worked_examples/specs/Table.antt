@@ -7,7 +7,7 @@ use lib.ListN.{replicate}
 use Rattle.rules.specs.Answer.{accepted, refused}
 use Rattle.slot_rules.specs.Answers as slots
 use Rattle.sparse_rules.specs.Answers.{counts}
-use Rattle.text.specs.Words.{ascii}
+use Rattle.text_rules.specs.Words.{ascii}
 use Rattle.worked_examples.specs.Calls.{Row, perform, stores, writes, locates, starts, lists, stored, written, located, started, listed}
 use Rattle.worked_examples.specs.Images.{emptyImage, twoChunks, p2, upFrom, flat, flatImage, boot3, boot2, section, none, layout, slot, two}
 

@@ -5,8 +5,8 @@ use Prim.Native.Nat.{ℕ}
 use lib.ListN.{length-replicate}
 use lib.Seq.{length-take-le}
 use borrow.Author.Needs.{needs}
-use Rattle.sparse_listing.specs.Listing.{heldOf}
-use Rattle.sparse_listing.proofs.Room.{whole-fits}
+use Rattle.sparse_list_rules.specs.Listing.{heldOf}
+use Rattle.sparse_list_rules.proofs.Room.{whole-fits}
 use Rattle.simg_list.proofs.main.Statement.{statement}
 use Rattle.simg_list.proofs.main.Tie as tie
 

@@ -1,7 +1,7 @@
 -- `sparse_lines::put_kind` meets its contract.
 -- Assumes nothing.
 use borrow.Author.Needs.{needs}
-use Rattle.sparse_lines.specs.Lines.{kindWord}
+use Rattle.sparse_list_rules.specs.Lines.{kindWord}
 use Rattle.sparse_lines.proofs.put_kind.Statement.{statement}
 use Rattle.sparse_lines.proofs.put_kind.Tie as tie
 

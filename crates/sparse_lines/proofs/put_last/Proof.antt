@@ -1,7 +1,7 @@
 -- `sparse_lines::put_last` meets its contract.
 -- Assumes nothing.
 use borrow.Author.Needs.{needs}
-use Rattle.sparse_lines.specs.Lines.{lastLine}
+use Rattle.sparse_list_rules.specs.Lines.{lastLine}
 use Rattle.sparse_lines.proofs.put_last.Statement.{statement}
 use Rattle.sparse_lines.proofs.put_last.Tie as tie
 

@@ -1,7 +1,7 @@
 -- `sparse_lines::put_refused` meets its contract.
 -- Assumes nothing.
 use borrow.Author.Needs.{needs}
-use Rattle.sparse_lines.specs.Lines.{refusedLine}
+use Rattle.sparse_list_rules.specs.Lines.{refusedLine}
 use Rattle.sparse_lines.proofs.put_refused.Statement.{statement}
 use Rattle.sparse_lines.proofs.put_refused.Tie as tie
 

@@ -2,7 +2,7 @@
 -- Assumes nothing.
 use native.Mathlib.Omega.{arith}
 use borrow.Author.Needs.{needs}
-use Rattle.sparse_listing.proofs.Room.{whole, too-short}
+use Rattle.sparse_list_rules.proofs.Room.{whole, too-short}
 use Rattle.sparse_listing.proofs.list.Statement.{statement}
 use Rattle.sparse_listing.proofs.list.Tie as tie
 

@@ -2,8 +2,8 @@
 -- Assumes nothing.
 use native.Mathlib.Omega.{arith}
 use borrow.Author.Needs.{needs}
-use Rattle.text.specs.Words.{labelled}
-use Rattle.text.proofs.Putting.{put-then}
+use Rattle.text_rules.specs.Words.{labelled}
+use Rattle.text_rules.proofs.Putting.{put-then}
 use Rattle.text.proofs.put_labelled.Statement.{statement}
 use Rattle.text.proofs.put_labelled.Tie as tie
 

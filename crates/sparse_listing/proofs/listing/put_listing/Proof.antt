@@ -3,8 +3,8 @@
 use mathlib.Core.Path.{sym, ap, _∙_}
 use borrow.Author.Needs.{needs}
 use Rattle.sparse_rules.specs.Answers.{answerOf}
-use Rattle.sparse_lines.specs.Lines.{tooLong}
-use Rattle.sparse_listing.proofs.Listings.{listing-long, listing-refused, listing-accepted}
+use Rattle.sparse_list_rules.specs.Lines.{tooLong}
+use Rattle.sparse_list_rules.proofs.Listings.{listing-long, listing-refused, listing-accepted}
 use Rattle.sparse_listing.proofs.listing.put_listing.Statement.{statement}
 use Rattle.sparse_listing.proofs.listing.put_listing.Tie as tie
 

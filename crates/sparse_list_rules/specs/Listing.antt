@@ -12,9 +12,9 @@ use Rattle.sparse_rules.specs.Walk.{Finding}
 use Rattle.rules.specs.Answer.{refused, accepted}
 use Rattle.sparse_rules.specs.Cells.{written, skipped}
 use Rattle.sparse_rules.specs.Judge.{judged}
-use Rattle.sparse_listing.specs.declared.Listed.{Listed}
-use Rattle.sparse_listing.specs.declared.Listed.the-variants.{Whole, TooShort}
-use Rattle.sparse_lines.specs.Lines.{tooLong, refusedLine, headerLine, chunkLine, lastLine}
+use Rattle.sparse_list_rules.specs.declared.Listed.{Listed}
+use Rattle.sparse_list_rules.specs.declared.Listed.the-variants.{Whole, TooShort}
+use Rattle.sparse_list_rules.specs.Lines.{tooLong, refusedLine, headerLine, chunkLine, lastLine}
 
 -- "an image of at most 65,536 bytes"
 abbrev pub longest : ℕ

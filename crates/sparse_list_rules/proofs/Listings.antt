@@ -1,8 +1,8 @@
--- The text of an input by what the judge answers.
+-- The lines of the chunks one after the other, and the text of an input by what the judge answers.
 -- Assumes nothing.
 use mathlib.Core.Path.{_≡_, ap, _∙_}
-use mathlib.Core.List.{List}
-use Prim.Native.Nat.{ℕ, _≤_, _<_}
+use mathlib.Core.List.{List, _∷_, _++_, append-assoc}
+use Prim.Native.Nat.{ℕ, _+_, _≤_, _<_}
 use lib.ListN.{length}
 use borrow.Author.Tests.{lt-ltb, le-ltb}
 use Rattle.sparse_rules.specs.declared.Chunk.{Chunk}
@@ -10,8 +10,13 @@ use Rattle.rules.specs.Answer.{accepted, refused}
 use Rattle.sparse_rules.specs.Judge.{judged}
 use Rattle.sparse_rules.specs.Answers.{counts, answer}
 use Rattle.sparse_rules.proofs.Image.{answer-accepted, answer-refused}
-use Rattle.sparse_lines.specs.Lines.{tooLong, refusedLine}
-use Rattle.sparse_listing.specs.Listing.{longest, partition, imageLines, listingOf, listing}
+use Rattle.sparse_list_rules.specs.Lines.{tooLong, refusedLine, chunkLine}
+use Rattle.sparse_list_rules.specs.Listing.{longest, partition, chunkLines, imageLines, listingOf, listing}
+
+-- the lines of some chunks, and what comes after them: the first chunk's line, then those of the others
+pub lines-step : (first : ℕ) (k : Chunk) (ks : List Chunk) (y : List ℕ) → chunkLines first (k ∷ ks) ++ y ≡ chunkLine first k ++ (chunkLines (first + k .blocks) ks ++ y)
+unfolding chunkLines
+lines-step first k ks y = append-assoc (chunkLine first k) (chunkLines (first + k .blocks) ks) y
 
 module _ (s : List ℕ) where
   -- an input that is too long

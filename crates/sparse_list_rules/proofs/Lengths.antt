@@ -3,13 +3,13 @@
 use Prim.Native.Nat.{ℕ, _≤_}
 use native.Mathlib.Omega.{arith}
 use lib.ListN.{length, length-append}
-use Rattle.text.specs.Words.{ascii}
-use Rattle.text.proofs.Digits.{decimal-most, labelled-most}
+use Rattle.text_rules.specs.Words.{ascii}
+use Rattle.text_rules.proofs.Digits.{decimal-most, labelled-most}
 use Rattle.sparse_rules.specs.declared.Header.{Header}
 use Rattle.sparse_rules.specs.declared.Kind.{Kind}
 use Rattle.sparse_rules.specs.declared.Kind.the-variants.{Raw, Fill, DontCare, Unknown}
 use Rattle.sparse_rules.specs.declared.Chunk.{Chunk}
-use Rattle.sparse_lines.specs.Lines.{kindWord, refusedLine, headerLine, chunkLine, lastLine}
+use Rattle.sparse_list_rules.specs.Lines.{kindWord, refusedLine, headerLine, chunkLine, lastLine}
 
 kind-most : (k : Kind) → length (kindWord k) ≤ 9
 unfolding kindWord

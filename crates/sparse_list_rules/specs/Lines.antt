@@ -2,7 +2,7 @@
 -- Assumes nothing.
 use mathlib.Core.List.{List, [], _∷_}
 use Prim.Native.Nat.{ℕ}
-use Rattle.text.specs.Words.{ascii, decimal, labelled, line}
+use Rattle.text_rules.specs.Words.{ascii, decimal, labelled, line}
 use Rattle.sparse_rules.specs.declared.Header.{Header}
 use Rattle.sparse_rules.specs.declared.Kind.{Kind}
 use Rattle.sparse_rules.specs.declared.Kind.the-variants.{Raw, Fill, DontCare, Unknown}

@@ -10,7 +10,7 @@ use lib.Dec.{ltb}
 use lib.ListN.{length, take, drop, length-append}
 use lib.Seq.{sets, length-sets}
 use Rattle.fields_rules.proofs.Sets.{sets-append, sets-past, sets-start}
-use Rattle.text.specs.Put.{Put}
+use Rattle.text_rules.specs.Put.{Put}
 
 -- no bytes
 pub put-none : (a : List ℕ) (at : ℕ) → at < 0x10000000000000000 → Put a at [] a at
