@@ -15,7 +15,7 @@ ghost use Rattle.fields_rules.specs.Number.{numberAt};
 pub fn row_in(image: &[u8]) -> Row
     ensures { λ r. ⌜ r ≡ rowIn (now (image .entry)) ⌝ }
 {
-    row_at(fields::read32(image, 40))
+    row_at(fields_read::read32(image, 40))
 }
 
 // The number in a field of four bytes; 0 where the version lacks it.
@@ -23,7 +23,7 @@ pub fn word(image: &[u8], field: Field) -> u32
     ensures { λ r. ⌜ r ≡ wordAt (now (image .entry)) field ⌝ }
 {
     if 0 < field.width {
-        fields::read32(image, field.at as usize)
+        fields_read::read32(image, field.at as usize)
     } else {
         0
     }
@@ -34,7 +34,7 @@ fn double(image: &[u8], field: Field) -> u64
     ensures { λ r. ⌜ r ≡ cond (has field) (numberAt (now (image .entry)) (field .at) 8) 0 ⌝ }
 {
     if 0 < field.width {
-        fields::read64(image, field.at as usize)
+        fields_read::read64(image, field.at as usize)
     } else {
         0
     }

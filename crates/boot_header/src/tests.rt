@@ -38,10 +38,10 @@ pub fn header_refusal(image: &[u8]) -> u32
     if image.len() < 44 {
         return 21;
     }
-    if fields::read64(image, 0) != MAGIC {
+    if fields_read::read64(image, 0) != MAGIC {
         return 22;
     }
-    if 4 < fields::read32(image, 40) {
+    if 4 < fields_read::read32(image, 40) {
         return 23;
     }
     let row = row_in(image);

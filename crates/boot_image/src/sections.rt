@@ -60,7 +60,7 @@ pub(crate) fn lay(image: &[u8]) -> Located
     requires { ⌜ isPage (pageIn (now image)) ≡ true ⌝ }
     ensures { λ r. ⌜ answerOf r ≡ laidOut (versionOf (now (image .entry))) (sectionsOf (now (image .entry))) ⌝ }
 {
-    let version = fields::read32(image, 40);
+    let version = fields_read::read32(image, 40);
     let row = row_in(image);
     let page = page_in(image);
     let first = Start {

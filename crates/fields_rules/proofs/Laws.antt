@@ -2,14 +2,14 @@
 -- and bytes that fit at a place or do not.
 -- Assumes nothing.
 use mathlib.Core.Path.{_≡_, refl, sym, ap, _∙_}
-use mathlib.Core.Bool.{Bool, true, false, not}
+use mathlib.Core.Bool.{Bool, true, false, cond}
 use mathlib.Core.List.{List, [], _∷_, _++_}
-use Prim.Native.Nat.{ℕ, zero, suc, _+_, _*_, _^_, _/_, _%_, _≤_, _<_}
+use Prim.Native.Nat.{ℕ, zero, suc, _+_, _-_, _*_, _^_, _/_, _%_, _≤_, _<_}
 use native.Mathlib.Nat.{pow-suc, div-add-mod', add-zero, mod-lt, zero-lt-suc, not-suc-le-zero, le-of-suc-le-suc}
 use native.Mathlib.Omega.{arith}
 use lib.ListN.{length, getD, drop, List·getD-append}
 use lib.Seq.{sets, getD-drop, getD-append-add}
-use borrow.Author.Tests.{le-leb, lt-leb, leb-true, leb-false, not-true, not-false}
+use borrow.Author.Tests.{le-leb, lt-leb}
 use lib.Dec.{leb}
 use Rattle.fields_rules.specs.Number.{numberAt, bytes, Bytes, placed}
 
@@ -103,10 +103,12 @@ pub placed-whole : (s : List ℕ) (at : ℕ) (xs : List ℕ) → at + length xs 
 unfolding placed
 placed-whole s at xs h = rw (le-leb (at + length xs) (length s) h)
 
--- a test whether bytes fit that is not refused says that they do
-pub fit : (m len : ℕ) {x : Bool} → x ≡ leb m len → not x ≡ false → m ≤ len
-fit m len {x} e h = leb-true m len (sym e ∙ not-false x h)
-
--- and one that is refused, that they do not
-pub past : (m len : ℕ) {x : Bool} → x ≡ leb m len → not x ≡ true → len < m
-past m len {x} e h = leb-false m len (sym e ∙ not-true x h)
+-- bytes that have room are stored; where there are none, it does not matter where they would stand
+pub placed-room : (s : List ℕ) (at : ℕ) (xs : List ℕ) → length xs ≤ length s - at → placed s at xs ≡ sets s at xs
+unfolding placed
+placed-room s at [] h = go (leb (at + 0) (length s))
+  where
+    go : (x : Bool) → cond x s s ≡ s
+    go true = refl
+    go false = refl
+placed-room s at (x ∷ xs) h = placed-whole s at (x ∷ xs) (omega arith)

@@ -27,12 +27,12 @@ pub fn read_header(image: &[u8]) -> Header
     ensures { λ r. ⌜ r ≡ headerOf (now (image .entry)) ⌝ }
 {
     Header {
-        block: fields::read32(image, 12),
-        total: fields::read32(image, 16),
-        chunks: fields::read32(image, 20),
-        checksum: fields::read32(image, 24),
-        start: wide(fields::read16(image, 8)),
-        head: wide(fields::read16(image, 10)),
+        block: fields_read::read32(image, 12),
+        total: fields_read::read32(image, 16),
+        chunks: fields_read::read32(image, 20),
+        checksum: fields_read::read32(image, 24),
+        start: wide(fields_read::read16(image, 8)),
+        head: wide(fields_read::read16(image, 10)),
     }
 }
 
@@ -64,10 +64,10 @@ pub fn header_refusal(image: &[u8], room: u64) -> u32
     if image.len() < 28 {
         return 1;
     }
-    if fields::read32(image, 0) != 0xED26FF3A {
+    if fields_read::read32(image, 0) != 0xED26FF3A {
         return 2;
     }
-    if fields::read16(image, 4) != 1 {
+    if fields_read::read16(image, 4) != 1 {
         return 3;
     }
     let header = read_header(image);

@@ -39,7 +39,7 @@ pub(crate) fn sum_chunk(sum: Sum, image: &[u8], block: u32, chunk: Chunk) -> Sum
             Sum { state, zeros: 0 }
         }
         Kind::Fill => {
-            let word = fields::read32(image, body);
+            let word = fields_read::read32(image, body);
             let state = crc32::update_word(settled(sum), word, n / 4);
             Sum { state, zeros: 0 }
         }

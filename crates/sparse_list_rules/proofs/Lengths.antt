@@ -11,6 +11,7 @@ use Rattle.sparse_rules.specs.declared.Kind.the-variants.{Raw, Fill, DontCare, 
 use Rattle.sparse_rules.specs.declared.Chunk.{Chunk}
 use Rattle.sparse_list_rules.specs.Lines.{kindWord, refusedLine, headerLine, chunkLine, lastLine}
 
+-- what a chunk is called
 kind-most : (k : Kind) → length (kindWord k) ≤ 9
 unfolding kindWord
 kind-most Raw = omega arith
@@ -18,19 +19,23 @@ kind-most Fill = omega arith
 kind-most DontCare = omega arith
 kind-most Unknown = omega arith
 
+-- the line of a refusal
 pub refused-most : (n place : ℕ) → length (refusedLine n place) ≤ 64
 unfolding refusedLine
 refused-most n place = simp length-append (omega (arith, labelled-most (ascii "refused ") n, labelled-most (ascii " at ") place))
 
+-- the first line of an accepted image
 pub header-most : (h : Header) → length (headerLine h) ≤ 96
 unfolding headerLine
 header-most h = simp length-append (omega (arith, labelled-most (ascii "block ") (h .block), labelled-most (ascii " total ") (h .total), labelled-most (ascii " chunks ") (h .chunks)))
 
+-- the line of a chunk
 pub chunk-most : (first : ℕ) (k : Chunk) → length (chunkLine first k) ≤ 60
 unfolding chunkLine
 chunk-most first k =
     simp length-append (omega (arith, decimal-most first, labelled-most (kindWord (k .kind)) (k .blocks), kind-most (k .kind)))
 
+-- the last line of an accepted image
 pub last-most : (written skipped : ℕ) → length (lastLine written skipped) ≤ 96
 unfolding lastLine
 last-most written skipped = simp length-append (omega (arith, labelled-most (ascii "ok written ") written, labelled-most (ascii " skipped ") skipped))

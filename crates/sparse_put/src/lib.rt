@@ -13,24 +13,24 @@ ghost use Rattle.sparse_write_rules.specs.Encode.{chunkHeader, chunk, version, 
 pub fn put_head(out: &mut [u8], at: usize, code: u16, blocks: u32, total: u32)
     ensures { λ _. ⌜ now (out .exit) ≡ placed (now (out .entry)) at (chunkHeader code blocks total) ⌝ }
 {
-    if !fields::within(out.len(), at, 12) {
+    if fields_write::room(out.len(), at, 12) < 12 {
         return;
     }
-    fields::write16(out, at, code);
-    fields::write16(out, at + 2, 0);
-    fields::write32(out, at + 4, blocks);
-    fields::write32(out, at + 8, total);
+    fields_write::write16(out, at, code);
+    fields_write::write16(out, at + 2, 0);
+    fields_write::write32(out, at + 4, blocks);
+    fields_write::write32(out, at + 8, total);
 }
 
 // The chunk of so many blocks filled with a word.
 pub fn put_fill(out: &mut [u8], at: usize, word: u32, blocks: u32)
     ensures { λ _. ⌜ now (out .exit) ≡ placed (now (out .entry)) at (chunk (fill word) blocks []) ⌝ }
 {
-    if !fields::within(out.len(), at, 16) {
+    if fields_write::room(out.len(), at, 16) < 16 {
         return;
     }
     put_head(out, at, 0xCAC2, blocks, 16);
-    fields::write32(out, at + 12, word);
+    fields_write::write32(out, at + 12, word);
 }
 
 // The first 12 bytes of the file header: magic, version 1.0, header sizes 28 and 12.
@@ -38,11 +38,11 @@ fn put_version(out: &mut [u8])
     requires { ⌜ 12 ≤ length (now out) ⌝ }
     ensures { λ _. ⌜ now (out .exit) ≡ sets (now (out .entry)) 0 version ⌝ }
 {
-    fields::write32(out, 0, 0xED26FF3A);
-    fields::write16(out, 4, 1);
-    fields::write16(out, 6, 0);
-    fields::write16(out, 8, 28);
-    fields::write16(out, 10, 12);
+    fields_write::write32(out, 0, 0xED26FF3A);
+    fields_write::write16(out, 4, 1);
+    fields_write::write16(out, 6, 0);
+    fields_write::write16(out, 8, 28);
+    fields_write::write16(out, 10, 12);
 }
 
 // The file header, at the start: block size, total blocks, total chunks, checksum.
@@ -53,8 +53,8 @@ pub fn put_header(out: &mut [u8], block: u32, total: u32, chunks: u32, sum: u32)
         return;
     }
     put_version(out);
-    fields::write32(out, 12, block);
-    fields::write32(out, 16, total);
-    fields::write32(out, 20, chunks);
-    fields::write32(out, 24, sum);
+    fields_write::write32(out, 12, block);
+    fields_write::write32(out, 16, total);
+    fields_write::write32(out, 20, chunks);
+    fields_write::write32(out, 24, sum);
 }

@@ -53,7 +53,7 @@ fn field(image: &[u8], at: usize, offset: usize) -> u32
 {
     if at < image.len() {
         if offset < image.len() - at {
-            return fields::read32(image, at + offset);
+            return fields_read::read32(image, at + offset);
         }
     }
     0
@@ -82,7 +82,7 @@ pub fn read_chunk(image: &[u8], header: Header, cursor: Cursor) -> ChunkRead
     if len - at < head {
         return refuse(7, at);
     }
-    let kind = kind_of(fields::read16(image, at));
+    let kind = kind_of(fields_read::read16(image, at));
     let blocks = field(image, at, 4);
     let size = field(image, at, 8);
     if size_right(header, kind, blocks, size) {

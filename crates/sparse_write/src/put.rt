@@ -22,7 +22,7 @@ fn put_raw(out: &mut [u8], pos: usize, src: &[u8], blocks: u32, state: u32) -> u
     let from = pos + 12;
     let end = from + src.len();
     sparse_put::put_head(out, pos, 0xCAC1, blocks, (12 + src.len()) as u32);
-    fields::copy(out, from, src);
+    fields_write::copy(out, from, src);
     crc32::update(state, &out[from..end])
 }
 

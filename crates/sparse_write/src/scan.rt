@@ -31,11 +31,11 @@ fn count_alike(flat: &[u8], block: usize, from: usize, n: usize, kind: u64) -> A
     let mut at = from;
     'each: while blocks < n {
         let start = at;
-        let first = fields::read32(flat, start);
+        let first = fields_read::read32(flat, start);
         at = start + block;
         let mut i = start + 4;
         while i < at {
-            if fields::read32(flat, i) != first {
+            if fields_read::read32(flat, i) != first {
                 if kind != 1 {
                     return Alike { blocks, next: 1 };
                 }

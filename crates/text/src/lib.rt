@@ -10,7 +10,7 @@ ghost use Rattle.text_rules.specs.Put.{Put};
 pub fn put(out: &mut [u8], at: usize, bytes: &[u8]) -> usize
     ensures { λ r. ⌜ Put (now (out .entry)) at (now (bytes .entry)) (now (out .exit)) r ⌝ }
 {
-    fields::copy(out, at, bytes);
+    fields_write::copy(out, at, bytes);
     if usize::MAX - at < bytes.len() {
         return usize::MAX;
     }

@@ -11,7 +11,7 @@ use crate::support::verdict;
 pub(crate) fn boot(rest: &[u8]) -> usize {
     let mut buf = io::large_buffer();
     let taken = build(rest, &mut buf);
-    let image = part(&buf, 0, fields::read32(rest, 0) as usize);
+    let image = part(&buf, 0, fields_read::read32(rest, 0) as usize);
     let mut out = [0u64; 19];
     value(tarpaulark::tarpaulark_locate(image, &mut out) as u64);
     for i in 0usize..19 {
@@ -25,9 +25,9 @@ pub(crate) fn sparse(rest: &[u8]) -> usize {
     let form = part(rest, 8, rest.len());
     let mut buf = io::large_buffer();
     let taken = build(form, &mut buf);
-    let image = part(&buf, 0, fields::read32(form, 0) as usize);
+    let image = part(&buf, 0, fields_read::read32(form, 0) as usize);
     let mut out = [0u64; 3];
-    let number = tarpaulark::tarpaulark_judge(image, fields::read64(rest, 0), &mut out);
+    let number = tarpaulark::tarpaulark_judge(image, fields_read::read64(rest, 0), &mut out);
     verdict(number, &out);
     past(rest, 8, taken)
 }
@@ -37,13 +37,13 @@ pub(crate) fn write(rest: &[u8]) -> usize {
     let form = part(rest, 8, rest.len());
     let mut buf = io::large_buffer();
     let taken = build(form, &mut buf);
-    let flat = part(&buf, 0, fields::read32(form, 0) as usize);
+    let flat = part(&buf, 0, fields_read::read32(form, 0) as usize);
     let mut space = [0u8; 69632];
-    let n = least(fields::read32(rest, 4) as usize, &space);
+    let n = least(fields_read::read32(rest, 4) as usize, &space);
     let image = &mut space[..n];
     prepare(image, 11, 5);
     let mut out = [0u64; 2];
-    let number = tarpaulark::tarpaulark_write(flat, fields::read32(rest, 0), image, &mut out);
+    let number = tarpaulark::tarpaulark_write(flat, fields_read::read32(rest, 0), image, &mut out);
     value(number as u64);
     value(out[1]);
     value(crc32::checksum(image) as u64);

@@ -8,7 +8,7 @@ const CASE: usize = 19;
 // The values of a case, a byte each: number, kind, slot, and the record after.
 fn gathered(number: u32, kind: &[u64; 2], record: &[u8; 17]) -> [u8; 20] {
     let mut all = [0u8; 20];
-    fields::copy(&mut all, 3, record);
+    fields_write::copy(&mut all, 3, record);
     all[0] = (number % 256) as u8;
     all[1] = (kind[0] % 256) as u8;
     all[2] = (kind[1] % 256) as u8;
@@ -23,10 +23,10 @@ fn fresh(slots: u32, record: &mut [u8; 17], kind: &mut [u64; 2]) -> u32 {
 
 // What the operation of a case answers and leaves.
 fn outcome(case: &[u8]) -> [u8; 20] {
-    let head = fields::read16(case, 0);
+    let head = fields_read::read16(case, 0);
     let argument = (head / 256) as u32;
     let mut record = [0u8; 17];
-    fields::copy(&mut record, 0, part(case, 2, 17));
+    fields_write::copy(&mut record, 0, part(case, 2, 17));
     let mut kind = [0u64; 2];
     let number = match head % 256 {
         0 => fresh(argument, &mut record, &mut kind),

@@ -21,7 +21,7 @@ fn store_images(case: &[u8], partition: &mut [u8], images: u32, print: bool) -> 
         let form = part(case, at, case.len());
         let mut buf = io::large_buffer();
         at = past(case, at, build(form, &mut buf));
-        let image = part(&buf, 0, fields::read32(form, 0) as usize);
+        let image = part(&buf, 0, fields_read::read32(form, 0) as usize);
         let mut out = [0u64; 3];
         let number = tarpaulark::tarpaulark_store(image, partition, &mut out);
         left = left - 1;
@@ -38,7 +38,7 @@ fn cut_image(form: &[u8], partition: &mut [u8], limit: u64, reached: bool) {
     if reached {
         let mut buf = io::large_buffer();
         build(form, &mut buf);
-        let image = part(&buf, 0, fields::read32(form, 0) as usize);
+        let image = part(&buf, 0, fields_read::read32(form, 0) as usize);
         let number = tarpaulark::tarpaulark_store_limited(image, partition, limit, &mut out);
         value(number as u64);
         value(out[0]);
@@ -52,13 +52,13 @@ fn cut_image(form: &[u8], partition: &mut [u8], limit: u64, reached: bool) {
 
 // One run that is cut: its answer and the partition's checksum. Answers how many bytes it takes.
 fn cut_run(case: &[u8], run: &[u8], partition: &mut [u8], images: u32) -> usize {
-    let cut = fields::read32(run, 0);
+    let cut = fields_read::read32(run, 0);
     let at = store_images(case, partition, cut, false);
     let form = part(case, at, case.len());
-    cut_image(form, partition, fields::read64(run, 4), cut < images);
-    let count = fields::read32(run, 16) as usize;
+    cut_image(form, partition, fields_read::read64(run, 4), cut < images);
+    let count = fields_read::read32(run, 16) as usize;
     let torn = part(run, RUN, count);
-    fields::copy(partition, fields::read32(run, 12) as usize, torn);
+    fields_write::copy(partition, fields_read::read32(run, 12) as usize, torn);
     value(crc32::checksum(partition) as u64);
     RUN + count
 }
@@ -67,9 +67,9 @@ fn cut_run(case: &[u8], run: &[u8], partition: &mut [u8], images: u32) -> usize 
 // first, to find the runs.
 fn runs(case: &[u8], partition: &mut [u8], images: u32) -> usize {
     let first = store_images(case, &mut partition[..0], images, false);
-    prepare(partition, (fields::read16(case, 4) % 256) as u8, 7);
+    prepare(partition, (fields_read::read16(case, 4) % 256) as u8, 7);
     let mut at = past(case, first, 4);
-    let mut left = fields::read32(part(case, first, 4), 0);
+    let mut left = fields_read::read32(part(case, first, 4), 0);
     while 0 < left {
         let taken = cut_run(case, part(case, at, case.len()), partition, images);
         at = past(case, at, taken);
@@ -83,6 +83,6 @@ fn runs(case: &[u8], partition: &mut [u8], images: u32) -> usize {
 // Prints the values of the case at the start of rest, and answers how many bytes it takes.
 pub(crate) fn case(rest: &[u8]) -> usize {
     let mut buf = io::buffer();
-    let n = least(fields::read32(rest, 0) as usize, &buf);
-    runs(rest, &mut buf[..n], fields::read32(rest, 5))
+    let n = least(fields_read::read32(rest, 0) as usize, &buf);
+    runs(rest, &mut buf[..n], fields_read::read32(rest, 5))
 }

@@ -67,12 +67,12 @@ pub(crate) fn verdict(number: u32, out: &[u64; 3]) {
 // Answers how many bytes the form takes.
 pub(crate) fn build(form: &[u8], out: &mut [u8]) -> usize {
     let mut at: usize = 8;
-    let mut left = fields::read32(form, 4);
+    let mut left = fields_read::read32(form, 4);
     while 0 < left {
         let patch = part(form, at, form.len());
-        let count = fields::read32(patch, 4) as usize;
+        let count = fields_read::read32(patch, 4) as usize;
         let bytes = part(patch, 8, count);
-        fields::copy(out, fields::read32(patch, 0) as usize, bytes);
+        fields_write::copy(out, fields_read::read32(patch, 0) as usize, bytes);
         at = past(form, at, 8 + count);
         left = left - 1;
     }

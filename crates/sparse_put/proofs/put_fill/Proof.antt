@@ -4,7 +4,6 @@ use mathlib.Core.Path.{sym}
 use Prim.Native.Nat.{_+_, _≤_}
 use native.Mathlib.Omega.{arith}
 use lib.ListN.{length}
-use Rattle.fields_rules.proofs.Laws.{fit, past}
 use Rattle.sparse_put.proofs.Putting.{fill-put, fill-none}
 use borrow.Author.Needs.{needs}
 use Rattle.sparse_put.proofs.put_fill.Statement.{statement}
@@ -12,15 +11,15 @@ use Rattle.sparse_put.proofs.put_fill.Tie as tie
 
 -- the chunk fits
 room : (c : tie.Else1) → c .before .before .before .args .at + 16 ≤ length (c .before .before .before .args .out .now)
-room c = fit _ _ (c .before .within .ensures) (c .if1 .left)
+room c = omega arith
 
-within-requires : tie.Need-within-requires
-within-requires c κs = search needs
+room-requires : tie.Need-room-requires
+room-requires c κs = search needs
 
 returns : tie.Need-returns
 returns c =
     let a = c .before .before .before .args in
-    sym (fill-none (a .blocks) (a .word) (a .out .now) (a .at) (past _ _ (c .before .within .ensures) (c .if1 .taken)))
+    sym (fill-none (a .blocks) (a .word) (a .out .now) (a .at) (omega arith))
 
 put-head-requires : tie.Need-put-head-requires
 put-head-requires c κs = search needs
@@ -45,7 +44,7 @@ pub put-fill-spec : {M : Type 1} → statement M
 put-fill-spec =
     tie.close
     (tie.spec
-    within-requires
+    room-requires
     returns
     put-head-requires
     add-write32

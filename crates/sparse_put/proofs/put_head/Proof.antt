@@ -4,7 +4,6 @@ use mathlib.Core.Path.{sym}
 use Prim.Native.Nat.{_+_, _≤_}
 use native.Mathlib.Omega.{arith}
 use lib.ListN.{length}
-use Rattle.fields_rules.proofs.Laws.{fit, past}
 use Rattle.sparse_put.proofs.Putting.{head-put, head-none}
 use borrow.Author.Needs.{needs}
 use Rattle.sparse_put.proofs.put_head.Statement.{statement}
@@ -12,15 +11,15 @@ use Rattle.sparse_put.proofs.put_head.Tie as tie
 
 -- the header fits
 room : (c : tie.Else1) → c .before .before .before .args .at + 12 ≤ length (c .before .before .before .args .out .now)
-room c = fit _ _ (c .before .within .ensures) (c .if1 .left)
+room c = omega arith
 
-within-requires : tie.Need-within-requires
-within-requires c κs = search needs
+room-requires : tie.Need-room-requires
+room-requires c κs = search needs
 
 returns : tie.Need-returns
 returns c =
     let a = c .before .before .before .args in
-    sym (head-none (a .code) (a .blocks) (a .total) (a .out .now) (a .at) (past _ _ (c .before .within .ensures) (c .if1 .taken)))
+    sym (head-none (a .code) (a .blocks) (a .total) (a .out .now) (a .at) (omega arith))
 
 write16-requires : tie.Need-write16-requires
 write16-requires c κs = search needs
@@ -60,7 +59,7 @@ pub put-head-spec : {M : Type 1} → statement M
 put-head-spec =
     tie.close
     (tie.spec
-    within-requires
+    room-requires
     returns
     write16-requires
     add-write16

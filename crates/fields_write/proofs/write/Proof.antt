@@ -1,14 +1,13 @@
--- `fields::write` meets its contract. The loop's invariant: what is left of the value, stored from byte i on, gives the whole field.
+-- `fields_write::write` meets its contract. The loop's invariant: what is left of the value, stored from byte i on, gives the whole field.
 -- The measure is the bytes left. Assumes nothing.
 use mathlib.Core.Path.{sym, _∙_}
-use Prim.Native.Nat.{_+_, _-_, _≤_}
+use Prim.Native.Nat.{_-_}
 use native.Mathlib.Omega.{arith}
 use borrow.Author.Needs.{needs}
-use lib.ListN.{length}
-use Rattle.fields_rules.proofs.Laws.{length-bytes, placed-whole, placed-none, fit, past}
-use Rattle.fields.proofs.Loops.{Stored, stored-none, stored-more, stored-all}
-use Rattle.fields.proofs.write.Statement.{statement}
-use Rattle.fields.proofs.write.Tie as tie
+use Rattle.fields_rules.proofs.Laws.{length-bytes, placed-none, placed-room}
+use Rattle.fields_write.proofs.Loops.{Stored, stored-none, stored-more, stored-all}
+use Rattle.fields_write.proofs.write.Statement.{statement}
+use Rattle.fields_write.proofs.write.Tie as tie
 
 abbrev Inv-loop : tie.InvT-loop
 Inv-loop out₀ at width value left₀ i₀ out left i = Stored out₀ at width value out left i
@@ -16,17 +15,13 @@ Inv-loop out₀ at width value left₀ i₀ out left i = Stored out₀ at width 
 abbrev μ-loop : tie.MeasureT-loop
 μ-loop out₀ at width value left₀ i₀ out left i = width - i
 
--- the field fits
-room : (c : tie.Else1 Inv-loop μ-loop) → c .before .before .before .args .at + c .before .before .before .args .width ≤ length (c .before .before .before .args .out .now)
-room c = fit _ _ (c .before .within .ensures) (c .if1 .left)
-
-within-requires : tie.Need-within-requires Inv-loop μ-loop
-within-requires c κs = search needs
+room-requires : tie.Need-room-requires Inv-loop μ-loop
+room-requires c κs = search needs
 
 returns : tie.Need-returns Inv-loop μ-loop
 returns c =
     let a = c .before .before .before .args in
-    sym (placed-none _ _ _ (rw (length-bytes (a .width) (a .value)) (past _ _ (c .before .within .ensures) (c .if1 .taken))))
+    sym (placed-none _ _ _ (rw (length-bytes (a .width) (a .value)) (omega arith)))
 
 loop-holds : tie.Need-loop-holds Inv-loop μ-loop
 loop-holds c = stored-none _ _ _ _
@@ -35,10 +30,10 @@ cast-out : tie.Need-cast-out Inv-loop μ-loop
 cast-out c = search needs
 
 add-out : tie.Need-add-out Inv-loop μ-loop
-add-out c = omega (arith, room (c .before .before))
+add-out c = search needs
 
 slice-write-out : tie.Need-slice-write-out Inv-loop μ-loop
-slice-write-out c = omega (arith, room (c .before .before))
+slice-write-out c = search needs
 
 add-i : tie.Need-add-i Inv-loop μ-loop
 add-i c = search needs
@@ -56,7 +51,7 @@ returns-2 : tie.Need-returns-2 Inv-loop μ-loop
 returns-2 c =
     let a = c .before .before .before .before .before .args in
     stored-all _ _ _ _ _ _ _ (c .before .loop .inv) (c .loop-test .left)
-    ∙ sym (placed-whole _ _ _ (rw (length-bytes (a .width) (a .value)) (room (c .before .before))))
+    ∙ sym (placed-room _ _ _ (rw (length-bytes (a .width) (a .value)) (omega arith)))
 
 pub write-spec : {M : Type 1} → statement M
 write-spec =
@@ -64,7 +59,7 @@ write-spec =
     (tie.spec
     Inv-loop
     μ-loop
-    within-requires
+    room-requires
     returns
     loop-holds
     cast-out

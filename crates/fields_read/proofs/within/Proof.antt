@@ -1,11 +1,11 @@
--- `fields::within` meets its contract. Assumes nothing.
+-- `fields_read::within` meets its contract. Assumes nothing.
 use mathlib.Core.Path.{sym}
 use Prim.Native.Nat.{_+_}
 use native.Mathlib.Omega.{arith}
 use borrow.Author.Tests.{lt-leb}
-use Rattle.fields.proofs.Loops.{within-rest}
-use Rattle.fields.proofs.within.Statement.{statement}
-use Rattle.fields.proofs.within.Tie as tie
+use Rattle.fields_read.proofs.Loops.{within-rest}
+use Rattle.fields_read.proofs.within.Statement.{statement}
+use Rattle.fields_read.proofs.within.Tie as tie
 
 returns : tie.Need-returns
 returns c = let a = c .before .args in sym (lt-leb (a .at + a .n) (a .len) (omega arith))

@@ -1,11 +1,11 @@
--- `fields::byte` meets its contract: past the end the list has its default, which is 0. Assumes nothing.
+-- `fields_read::byte` meets its contract: past the end the list has its default, which is 0. Assumes nothing.
 use mathlib.Core.Path.{sym, refl}
 use Prim.Native.Nat.{_+_}
 use native.Mathlib.Omega.{arith}
 use lib.ListN.{List·getD-eq-default}
 use borrow.Author.Needs.{needs}
-use Rattle.fields.proofs.byte.Statement.{statement}
-use Rattle.fields.proofs.byte.Tie as tie
+use Rattle.fields_read.proofs.byte.Statement.{statement}
+use Rattle.fields_read.proofs.byte.Tie as tie
 
 sub-if2 : tie.Need-sub-if2
 sub-if2 c = search needs

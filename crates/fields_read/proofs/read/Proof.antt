@@ -1,10 +1,10 @@
--- `fields::read` meets its contract. The loop's invariant: the value is the field's bytes from `left` on. The measure is what is left.
+-- `fields_read::read` meets its contract. The loop's invariant: the value is the field's bytes from `left` on. The measure is what is left.
 -- Assumes nothing.
 use native.Mathlib.Omega.{arith}
 use borrow.Author.Needs.{needs}
-use Rattle.fields.proofs.Loops.{Read, read-none, read-all, held, turned}
-use Rattle.fields.proofs.read.Statement.{statement}
-use Rattle.fields.proofs.read.Tie as tie
+use Rattle.fields_read.proofs.Loops.{Read, read-none, read-all, held, turned}
+use Rattle.fields_read.proofs.read.Statement.{statement}
+use Rattle.fields_read.proofs.read.Tie as tie
 
 abbrev Inv-loop : tie.InvT-loop
 Inv-loop s at width value₀ left₀ value left = Read s at width value left

@@ -1,16 +1,14 @@
-// Numbers of two, four and eight bytes in a slice of bytes, low byte first, and bytes copied.
+// Numbers of two, four and eight bytes read from a slice of bytes, low byte first.
 //
 // Every read is total: a byte past the end counts as 0, at every position up to the largest usize.
-// A number that does not fit whole is not written; a copy stores the bytes that have room.
 ghost use mathlib.Core.Path.{_≡_};
-ghost use Prim.Native.Nat.{_+_, _-_, _^_, _≤_, _<_};
+ghost use Prim.Native.Nat.{_+_, _^_, _≤_, _<_};
 ghost use lib.Dec.{leb};
 ghost use lib.ListN.{length, getD};
-ghost use lib.Seq.{sets};
-ghost use Rattle.fields_rules.specs.Number.{numberAt, bytes, placed};
+ghost use Rattle.fields_rules.specs.Number.{numberAt};
 
 // Whether n bytes from `at` on lie within a slice of so many.
-pub fn within(len: usize, at: usize, n: usize) -> bool
+fn within(len: usize, at: usize, n: usize) -> bool
     ensures { λ r. ⌜ r ≡ leb (at + n) len ⌝ }
 {
     if len < n { false } else { at <= len - n }
@@ -80,60 +78,4 @@ pub fn read64(s: &[u8], at: usize) -> u64
     ensures { λ r. ⌜ r ≡ numberAt (now (s .entry)) at 8 ⌝ }
 {
     read(s, at, 8)
-}
-
-// The `width` low bytes of a number at `at`, where they fit whole.
-fn write(out: &mut [u8], at: usize, width: usize, value: u64)
-    ensures { λ _. ⌜ now (out .exit) ≡ placed (now (out .entry)) at (bytes width value) ⌝ }
-{
-    if !within(out.len(), at, width) {
-        return;
-    }
-    let mut left = value;
-    let mut i: usize = 0;
-    while i < width {
-        out[at + i] = (left % 256) as u8;
-        left = left / 256;
-        i = i + 1;
-    }
-}
-
-// Two bytes at `at`.
-pub fn write16(out: &mut [u8], at: usize, value: u16)
-    ensures { λ _. ⌜ now (out .exit) ≡ placed (now (out .entry)) at (bytes 2 value) ⌝ }
-{
-    write(out, at, 2, value as u64);
-}
-
-// Four bytes at `at`.
-pub fn write32(out: &mut [u8], at: usize, value: u32)
-    ensures { λ _. ⌜ now (out .exit) ≡ placed (now (out .entry)) at (bytes 4 value) ⌝ }
-{
-    write(out, at, 4, value as u64);
-}
-
-// Eight bytes at `at`.
-pub fn write64(out: &mut [u8], at: usize, value: u64)
-    ensures { λ _. ⌜ now (out .exit) ≡ placed (now (out .entry)) at (bytes 8 value) ⌝ }
-{
-    write(out, at, 8, value);
-}
-
-// How many of n bytes from `at` on have room in a slice of so many.
-fn room(len: usize, at: usize, n: usize) -> usize
-    ensures { λ r. ⌜ (r ≤ n) × (r ≤ len - at) × (r < n → len ≤ at + r) ⌝ }
-{
-    if len <= at {
-        return 0;
-    }
-    if len - at < n { len - at } else { n }
-}
-
-// The bytes of a slice stored from `at` on, as many as have room.
-pub fn copy(out: &mut [u8], at: usize, src: &[u8])
-    ensures { λ _. ⌜ now (out .exit) ≡ sets (now (out .entry)) at (now (src .entry)) ⌝ }
-{
-    for i in 0..room(out.len(), at, src.len()) {
-        out[at + i] = src[i];
-    }
 }

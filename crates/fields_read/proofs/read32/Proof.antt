@@ -1,9 +1,9 @@
--- `fields::read32` meets its contract. Assumes nothing.
+-- `fields_read::read32` meets its contract. Assumes nothing.
 use mathlib.Core.Path.{sym, _∙_}
 use borrow.Author.Needs.{needs}
 use borrow.Author.Tests.{leb-true}
-use Rattle.fields.proofs.read32.Statement.{statement}
-use Rattle.fields.proofs.read32.Tie as tie
+use Rattle.fields_read.proofs.read32.Statement.{statement}
+use Rattle.fields_read.proofs.read32.Tie as tie
 
 within-requires : tie.Need-within-requires
 within-requires c κs = search needs

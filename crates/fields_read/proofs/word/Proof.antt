@@ -1,9 +1,9 @@
--- `fields::word` meets its contract.
+-- `fields_read::word` meets its contract.
 -- Assumes nothing.
-use Rattle.fields.proofs.Loops.{word-is}
+use Rattle.fields_read.proofs.Loops.{word-is}
 use borrow.Author.Needs.{needs}
-use Rattle.fields.proofs.word.Statement.{statement}
-use Rattle.fields.proofs.word.Tie as tie
+use Rattle.fields_read.proofs.word.Statement.{statement}
+use Rattle.fields_read.proofs.word.Tie as tie
 
 shared-slice-read-wide : tie.Need-shared-slice-read-wide
 shared-slice-read-wide c = search needs

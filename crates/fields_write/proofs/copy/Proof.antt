@@ -1,11 +1,11 @@
--- `fields::copy` meets its contract. The loop's invariant: the bytes that are left, stored from here on, make the whole.
+-- `fields_write::copy` meets its contract. The loop's invariant: the bytes that are left, stored from here on, make the whole.
 -- The measure is the bytes left. Assumes nothing.
 use Prim.Native.Nat.{_-_, _≤_}
 use native.Mathlib.Omega.{arith}
 use borrow.Author.Needs.{needs}
-use Rattle.fields.proofs.Loops.{Copied, copied-none, copied-more, copied-all}
-use Rattle.fields.proofs.copy.Statement.{statement}
-use Rattle.fields.proofs.copy.Tie as tie
+use Rattle.fields_write.proofs.Loops.{Copied, copied-none, copied-more, copied-all}
+use Rattle.fields_write.proofs.copy.Statement.{statement}
+use Rattle.fields_write.proofs.copy.Tie as tie
 
 abbrev Inv-loop : tie.InvT-loop
 Inv-loop out₀ at src i₀ i-end out i = (i ≤ i-end) × Copied out₀ at src out i
@@ -41,7 +41,7 @@ same-length : tie.Need-same-length Inv-loop μ-loop
 same-length c = c .before .loop .inv .1 .same-length
 
 returns : tie.Need-returns Inv-loop μ-loop
-returns c = copied-all _ _ _ _ _ (c .before .loop .inv .1) (λ h. omega (arith, c .before .before .room .ensures .2 (omega arith)))
+returns c = copied-all _ _ _ _ _ (c .before .loop .inv .1) (λ h. omega arith)
 
 pub copy-spec : {M : Type 1} → statement M
 copy-spec =
