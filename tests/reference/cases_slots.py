@@ -45,9 +45,10 @@ def encoded(case: Case) -> bytes:
 
 
 def performed(case: Case) -> Tuple[slots.Answer, Record]:
-    """The operation's answer and the record after it."""
+    """The operation's answer and the record after it, which a refused one leaves."""
     if case.operation == FRESH:
-        return slots.fresh(case.argument)
+        answer, record = slots.fresh(case.argument)
+        return answer, case.record if isinstance(answer, slots.Refusal) else record
     if case.operation == START:
         return slots.start(case.record)
     if case.operation == SET_ACTIVE:

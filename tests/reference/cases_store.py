@@ -2,7 +2,7 @@
 
 import itertools
 import random
-from typing import Iterator, List, NamedTuple, Sequence, Tuple
+from typing import Iterator, List, NamedTuple, Optional, Sequence, Tuple
 
 import build
 import cases_sparse
@@ -39,9 +39,31 @@ class Case(NamedTuple):
     runs: Tuple[Run, ...]
 
 
-def encoded_run(run: Run) -> bytes:
-    """The cut run as it stands in the file."""
-    return u32(run.cut) + u64(run.limit) + u32(run.torn_at) + u32(len(run.torn)) + run.torn
+class Step(NamedTuple):
+    """An image stored: in full where there is no limit; then some bytes torn."""
+
+    image: bytes
+    limit: Optional[int] = None
+    torn_at: int = 0
+    torn: bytes = b""
+
+
+def steps(case: Case) -> Iterator[Step]:
+    """What the runs of a case do, one image after the other; the last run is full."""
+    for run in case.runs:
+        yield from map(Step, case.images[:run.cut])
+        if run.cut == len(case.images):
+            assert run == Run(run.cut)
+        else:
+            yield Step(case.images[run.cut], run.limit, run.torn_at, run.torn)
+    yield from map(Step, case.images)
+
+
+def encoded_step(step: Step, image_at: int) -> bytes:
+    """The step as it stands in the file, its image at an offset in the case."""
+    form, limit = (0, 0) if step.limit is None else (1, step.limit)
+    head = u32(form) + u32(image_at) + u64(limit) + u32(step.torn_at)
+    return head + u32(len(step.torn)) + step.torn
 
 
 def encoded(case: Case) -> bytes:
@@ -49,9 +71,16 @@ def encoded(case: Case) -> bytes:
     assert case.length <= LONGEST_PARTITION
     assert len(case.images) <= MOST_IMAGES and len(case.runs) <= MOST_RUNS
     assert all(len(image) <= LONGEST_IMAGE for image in case.images)
-    head = u32(case.length) + bytes([case.seed]) + u32(len(case.images))
-    runs = u32(len(case.runs)) + b"".join(map(encoded_run, case.runs))
-    return head + b"".join(map(patched_image, case.images)) + runs
+    forms = {image: patched_image(image) for image in case.images}
+    taken = list(steps(case))
+    at = 16 + sum(len(encoded_step(step, 0)) for step in taken)
+    starts = {}
+    for image, form in forms.items():
+        starts[image] = at
+        at += len(form)
+    head = u32(at) + u32(case.length) + u32(case.seed) + u32(len(taken))
+    body = b"".join(encoded_step(step, starts[step.image]) for step in taken)
+    return head + body + b"".join(forms.values())
 
 
 def first_contents(length: int, seed: int) -> bytes:
@@ -59,25 +88,24 @@ def first_contents(length: int, seed: int) -> bytes:
     return bytes((seed + 7 * i) % 256 for i in range(length))
 
 
-def is_in_next_block(run: Run, image: bytes, length: int) -> bool:
+def is_in_next_block(step: Step, length: int) -> bool:
     """Whether the torn bytes lie inside the next block to be stored."""
-    block = store.torn_block(image, bytes(length), run.limit)
-    if block is None or not run.torn:
-        return not run.torn
-    return block.at <= run.torn_at and run.torn_at + len(run.torn) <= block.at + len(block.data)
+    if step.limit is None or not step.torn:
+        return not step.torn
+    block = store.torn_block(step.image, bytes(length), step.limit)
+    assert block is not None
+    return block.at <= step.torn_at and step.torn_at + len(step.torn) <= block.at + len(block.data)
 
 
-def after_run(case: Case, run: Run, partition: bytes) -> Tuple[Tuple[int, ...], bytes]:
-    """The cut form's number, place and count, and what the cut run leaves."""
-    partition = store.full_run(case.images[:run.cut], partition)[1]
-    if run.cut == len(case.images):
-        assert run == Run(run.cut)
-        return (0, 0, 0), partition
-    image = case.images[run.cut]
-    assert is_in_next_block(run, image, case.length)
-    stored = store.store_limited(image, partition, run.limit)
+def after_step(step: Step, partition: bytes) -> Tuple[Tuple[int, ...], bytes]:
+    """The values that the store answers, and what the step leaves."""
+    assert is_in_next_block(step, len(partition))
+    if step.limit is None:
+        verdict, partition = store.store(step.image, partition)
+        return cases_sparse.verdict_values(verdict), partition
+    stored = store.store_limited(step.image, partition, step.limit)
     number, place = cases_sparse.verdict_values(stored.verdict)[:2]
-    left = store.with_block(stored.partition, store.Block(run.torn_at, run.torn))
+    left = store.with_block(stored.partition, store.Block(step.torn_at, step.torn))
     return (number, place, stored.count), left
 
 
@@ -98,19 +126,18 @@ def assert_demand_3(case: Case, moments: Sequence[bytes]) -> None:
 
 
 def values(case: Case) -> Tuple[int, ...]:
-    """Four values of each cut run, four of each image of the full run, a checksum."""
+    """Of each step the store's answer and the checksum of the partition after it."""
     partition = first_contents(case.length, case.seed)
     found: List[int] = []
     moments = []
-    for run in case.runs:
-        answer, partition = after_run(case, run, partition)
+    taken = list(steps(case))
+    for step in taken:
+        answer, partition = after_step(step, partition)
         found += answer + (crc.checksum(partition),)
         moments.append(partition)
-    assert_demand_3(case, moments)
-    verdicts, partition = store.full_run(case.images, partition)
-    for verdict in verdicts:
-        found += cases_sparse.verdict_values(verdict)
-    return tuple(found) + (crc.checksum(partition),)
+    cut = len(taken) - len(case.images)
+    assert_demand_3(case, moments[:cut])
+    return tuple(found)
 
 
 def shapes(size: int) -> Tuple[Tuple[int, int], ...]:

@@ -21,8 +21,6 @@ LARGEST_IMAGE = 65536
 LARGEST_STORED_IMAGE = 8192
 LARGEST_PARTITION = 4096
 LARGEST_WRITTEN = 69632
-MOST_STORED_IMAGES = 4
-MOST_RUNS = 32
 LARGEST_OUTPUT = 400_000
 
 Lines = Iterator[Tuple[int, ...]]
@@ -91,59 +89,44 @@ def sparse_lines(data: bytes) -> Lines:
         yield verdict_values(sparse.judge(image, partition_length))
 
 
-def stored_images(data: bytes, at: int) -> Tuple[List[bytes], int]:
-    (count,) = struct.unpack_from("<I", data, at)
-    assert count <= MOST_STORED_IMAGES
-    images = []
-    at += 4
-    for _ in range(count):
-        image, at = cases_common.image_from_patches(data, at)
-        assert len(image) <= LARGEST_STORED_IMAGE
-        images.append(image)
-    return images, at
-
-
-def torn_run(
-    images: List[bytes], partition: bytes, data: bytes, at: int
+def store_step(
+    case: bytes, at: int, partition: bytes
 ) -> Tuple[Tuple[int, ...], bytes, int]:
-    """The run's values, the partition after it and the position after it."""
-    cut, limit, offset, count = struct.unpack_from("<IQII", data, at)
-    torn = data[at + 20:at + 20 + count]
-    after = store.full_run(images[:cut], partition)[1]
-    answer: Tuple[int, ...] = (0, 0, 0)
-    if cut < len(images):
-        stored = store.store_limited(images[cut], after, limit)
+    """The step's values, the partition after it and the position after it."""
+    form, image_at, limit, offset, count = struct.unpack_from("<IIQII", case, at)
+    image, _ = cases_common.image_from_patches(case, image_at)
+    assert len(image) <= LARGEST_STORED_IMAGE
+    torn = case[at + 24:at + 24 + count]
+    if form == 0:
+        assert (limit, count) == (0, 0)
+        verdict, after = store.store(image, partition)
+        answer = verdict_values(verdict)
+    else:
+        stored = store.store_limited(image, partition, limit)
         answer = verdict_values(stored.verdict)[:2] + (stored.count,)
-        next_block = store.torn_block(images[cut], after, limit)
         after = stored.partition
         if count != 0:
+            next_block = store.torn_block(image, partition, limit)
             assert next_block is not None and next_block.at <= offset
             assert offset + count <= next_block.at + len(next_block.data)
             after = after[:offset] + torn + after[offset + count:]
-    else:
-        assert (cut, limit, count) == (len(images), 0, 0)
-    return answer + (crc.checksum(after),), after, at + 20 + count
+    return answer + (crc.checksum(after),), after, at + 24 + count
 
 
 def store_lines(data: bytes) -> Lines:
-    at = 0
-    while at < len(data):
-        length, seed = struct.unpack_from("<IB", data, at)
+    start = 0
+    while start < len(data):
+        size, length, seed, steps = struct.unpack_from("<IIII", data, start)
         assert length <= LARGEST_PARTITION
-        images, at = stored_images(data, at + 5)
-        (runs,) = struct.unpack_from("<I", data, at)
-        assert runs <= MOST_RUNS
-        original = bytes((seed + 7 * i) % 256 for i in range(length))
-        partition = original
+        case = data[start:start + size]
+        start += size
+        partition = bytes((seed + 7 * i) % 256 for i in range(length))
         values: Tuple[int, ...] = ()
-        at += 4
-        for _ in range(runs):
-            answer, partition, at = torn_run(images, partition, data, at)
+        at = 16
+        for _ in range(steps):
+            answer, partition, at = store_step(case, at, partition)
             values += answer
-        verdicts, _ = store.full_run(images, partition)
-        for verdict in verdicts:
-            values += verdict_values(verdict)
-        yield values + (crc.checksum(store.last_given(images, original)),)
+        yield values
 
 
 def write_lines(data: bytes) -> Lines:

@@ -39,7 +39,7 @@ fields   case:  at u64, value u64, len u32, len bytes (len at most 20)
                 whole changes nothing.
 
 slots    case:  operation u8, argument u8, record of 17 u8; 19 bytes in all
-         operation: 0 fresh (argument: number of slots; the record is ignored),
+         operation: 0 fresh (argument: number of slots; a refusal leaves the record),
                 1 start, 2 set active (argument: slot), 3 modified (argument:
                 slot), 4 confirm; the argument of 1 and 4 is 0.
          record: used, unbootable, successful (0 or 1 each) and tries, for a,
@@ -70,25 +70,22 @@ sparse   case:  partition length u64, image
          values: NUMBER of the refusal or 0; its PLACE, or 0; blocks WRITTEN
                 and SKIPPED, both 0 when refused.
 
-store    case:  length u32 (at most 4,096), seed u8, images u32 (at most 4),
-                each image (of at most 8,192 bytes); runs u32 (at most 32), then
-                for each run cut u32, limit u64, offset u32, count u32, count
-                bytes.
+store    case:  size u32 (of the whole case), length u32 (at most 4,096), seed u32
+                (at most 255), steps u32, each step; then the images (of at most
+                8,192 bytes each).
+         step:  form u32, image u32, limit u64, offset u32, count u32, count bytes
          The partition has `length` bytes, byte i being (seed + 7 * i) % 256 at
-                first.  A run stores the images before number `cut` in full,
-                then that one with the cut form and `limit`; at last its count
-                bytes, the torn block, go into the partition at `offset`.  They
-                lie in the next block to be stored; count is 0 where there is
-                none.  Where `cut` equals the number of images, the cut form is
-                not called, and limit and count are 0.  Each run begins on what
-                the run before left.  After all runs comes one full run: the
-                plain store of each image in turn.
-         values: for each run, NUMBER of the cut form's refusal or 0, its PLACE,
-                or 0, the COUNT of blocks that it stored, 0 when refused (0 0 0
-                where it is not called), and the CHECKSUM of the partition after
-                the torn block; then for each image of the full run NUMBER PLACE
-                WRITTEN SKIPPED as in `sparse`; at last the CHECKSUM of the
-                partition.
+                first.  Each step stores the image that stands at offset `image`
+                of the case: by the plain store where form is 0, by the cut form
+                with `limit` where it is 1.  Then its count bytes, a torn block,
+                go into the partition at `offset`: they lie in the next block to
+                be stored, and count is 0 where there is none.  The steps are
+                those of some runs of a list of images that are cut, and of one
+                full run at last.
+         values: for each step NUMBER PLACE WRITTEN SKIPPED as in `sparse` (form
+                0), or NUMBER of the cut form's refusal or 0, its PLACE, or 0,
+                and the COUNT of blocks that it stored, 0 when refused (form 1);
+                then the CHECKSUM of the partition after the torn block.
 
 write    case:  block size u32, length u32 (at most 69,632), flat bytes in the
                 form of an image

@@ -4,6 +4,7 @@ use crate::support::least;
 use crate::support::part;
 use crate::support::past;
 use crate::support::prepare;
+use crate::support::room;
 use crate::support::value;
 use crate::support::verdict;
 
@@ -38,7 +39,7 @@ pub(crate) fn write(rest: &[u8]) -> usize {
     let mut buf = io::large_buffer();
     let taken = build(form, &mut buf);
     let flat = part(&buf, 0, fields_read::read32(form, 0) as usize);
-    let mut space = [0u8; 69632];
+    let mut space = room();
     let n = least(fields_read::read32(rest, 4) as usize, &space);
     let image = &mut space[..n];
     prepare(image, 11, 5);

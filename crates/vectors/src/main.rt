@@ -13,6 +13,7 @@ mod support;
 use libc::STDOUT_FILENO;
 use support::part;
 use support::past;
+use support::room;
 use support::value;
 
 // The groups of cases.
@@ -66,7 +67,7 @@ fn main() {
             os::fail(&path[..len]);
             return;
         }
-        let mut file = [0u8; 262144];
+        let mut file = room();
         let n = io::read_full(fd, &mut file);
         libc::close(fd);
         if 4 <= len {

@@ -15,12 +15,6 @@ fn gathered(number: u32, kind: &[u64; 2], record: &[u8; 17]) -> [u8; 20] {
     all
 }
 
-// A fresh record over zeros, which are the record that a refused number of slots gives.
-fn fresh(slots: u32, record: &mut [u8; 17], kind: &mut [u64; 2]) -> u32 {
-    *record = [0; 17];
-    tarpaulark::tarpaulark_slots_fresh(slots, record, kind)
-}
-
 // What the operation of a case answers and leaves.
 fn outcome(case: &[u8]) -> [u8; 20] {
     let head = fields_read::read16(case, 0);
@@ -29,7 +23,7 @@ fn outcome(case: &[u8]) -> [u8; 20] {
     fields_write::copy(&mut record, 0, part(case, 2, 17));
     let mut kind = [0u64; 2];
     let number = match head % 256 {
-        0 => fresh(argument, &mut record, &mut kind),
+        0 => tarpaulark::tarpaulark_slots_fresh(argument, &mut record, &mut kind),
         1 => tarpaulark::tarpaulark_slots_start(&mut record, &mut kind),
         2 => tarpaulark::tarpaulark_slots_set_active(&mut record, argument, &mut kind),
         3 => tarpaulark::tarpaulark_slots_modified(&mut record, argument, &mut kind),

@@ -1,6 +1,7 @@
 // What every group of cases uses: parts of its file, the values of a line, and images, which are kept as patches
 // over zeros.
 use libc::STDOUT_FILENO;
+ghost use mathlib.Core.Path.{_≡_};
 ghost use Prim.Native.Nat.{_<_};
 ghost use lib.ListN.{length};
 ghost use Rattle.io.specs.Counts.{Counts};
@@ -36,6 +37,13 @@ pub(crate) fn least(len: usize, buf: &[u8]) -> usize
     ensures { λ r. ⌜ Counts r (now (buf .entry)) ⌝ }
 {
     if len < buf.len() { len } else { buf.len() }
+}
+
+// 262,144 zeros: room for a file of cases, and for the longest output.
+pub(crate) fn room() -> [u8; 262144]
+    ensures { λ r. ⌜ 262144 ≡ length r ⌝ }
+{
+    [0; 262144]
 }
 
 // Fills a buffer with bytes that begin with one and go up by a step each time.

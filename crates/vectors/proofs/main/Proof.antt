@@ -1,7 +1,5 @@
 -- `vectors::main` meets its contract: each turn passes a group. Assumes nothing.
-use mathlib.Core.Path.{sym}
-use Prim.Native.Nat.{ℕ, _-_}
-use lib.ListN.{length-replicate}
+use Prim.Native.Nat.{_-_}
 use borrow.Author.Needs.{needs}
 use Rattle.vectors.proofs.main.Statement.{statement}
 use Rattle.vectors.proofs.main.Tie as tie
@@ -45,8 +43,11 @@ fail-requires c κs = search needs
 returns : tie.Need-returns Inv-loop μ-loop
 returns c = search needs
 
+room-requires : tie.Need-room-requires Inv-loop μ-loop
+room-requires c κs = search needs
+
 slice-aggregate-read-full : tie.Need-slice-aggregate-read-full Inv-loop μ-loop
-slice-aggregate-read-full c = sym (length-replicate {A = ℕ} 262144 0)
+slice-aggregate-read-full c = search needs
 
 read-full-requires : tie.Need-read-full-requires Inv-loop μ-loop
 read-full-requires c κs = search needs
@@ -98,6 +99,7 @@ main-spec =
     slice-aggregate-fail
     fail-requires
     returns
+    room-requires
     slice-aggregate-read-full
     read-full-requires
     close-requires
