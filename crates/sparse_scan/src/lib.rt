@@ -68,7 +68,7 @@ fn whole_blocks(len: usize, block_size: u32, at: usize) -> usize
     }
 }
 
-// The kind of the first block.
+// The kind of the first block, 0 where there is none.
 pub fn first_kind(flat: &[u8], block_size: u32) -> u64
     ensures { λ r. ⌜ kindNumbered r
         ≡ firstKind (storedKind (now (flat .entry)) «block_size») (wholeBlocks (length (now (flat .entry))) «block_size» 0) 0 ⌝ }
@@ -80,7 +80,7 @@ pub fn first_kind(flat: &[u8], block_size: u32) -> u64
     count_alike(flat, block_size as usize, 0, n, 0).next
 }
 
-// The first run from a place on, where the first block is of this kind.
+// The first run from a place on, whose first block counts as of this kind.
 pub fn first_run(flat: &[u8], block_size: u32, at: usize, kind: u64) -> Run
     ensures { λ r. ⌜ (r .blocks ≡ runBlocks (storedKind (now (flat .entry)) «block_size») «block_size» (kindNumbered kind) (wholeBlocks (length (now (flat .entry))) «block_size» at) at)
         × (r .len ≡ r .blocks * «block_size»)
