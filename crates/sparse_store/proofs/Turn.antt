@@ -123,10 +123,6 @@ module _ {s : List ℕ} {h : Header} {p₀ : List ℕ} {limit : ℕ} {p : List �
     pub took-bytes : took * h .block ≤ k .blocks * h .block
     took-bytes = mul-le-mul-right (h .block) (rw take-is most)
 
-    -- whose first bytes can be handed on
-    pub lent : c .first * h .block + took * h .block ≤ length p
-    lent = omega (arith, stretch, took-bytes, here .turn .size)
-
     -- and once they are stored, the rest goes on from the next chunk
     pub turned : {p′ : List ℕ} → p′ ≡ laid (c .first * h .block) (cellsBy s (k .kind) (k .body) (took * h .block)) p
         → Turn s h p₀ limit p′ next (left - took)

@@ -1,57 +1,17 @@
 // Storing a sparse image on a lent partition: whole, or up to a limit of stored blocks.
 ghost use mathlib.Core.Path.{_≡_};
-ghost use mathlib.Core.Bool.{cond};
-ghost use Prim.Native.Nat.{_+_, _≤_, min};
 ghost use lib.ListN.{length};
-ghost use Rattle.sparse_rules.specs.Cells.{cellsBy, writes};
 ghost use Rattle.sparse_rules.specs.Answers.{answer, answerOf};
-ghost use Rattle.sparse_store_rules.specs.Store.{laid, store, storeUpTo};
+ghost use Rattle.sparse_store_rules.specs.Store.{store, storeUpTo};
 ghost use Rattle.sparse_store_rules.specs.Answers.{cutAnswer, cutAnswerOf};
 ghost use Rattle.sparse_store.specs.Storable.{Storable};
-use sparse_rules::Chunk;
 use sparse_rules::ChunkRead;
 use sparse_rules::Cursor;
-use sparse_rules::Kind;
 use sparse_rules::Verdict;
-use sparse_store_bytes::put_fill;
-use sparse_store_bytes::put_raw;
+use sparse_store_chunk::least;
+use sparse_store_chunk::store_chunk;
+use sparse_store_chunk::taken;
 use sparse_store_rules::Stored;
-
-// The first bytes of a chunk: only its own stretch of the partition is handed on.
-fn store_chunk(image: &[u8], partition: &mut [u8], chunk: Chunk, from: usize, bytes: usize)
-    requires { ⌜ from + bytes ≤ length (now partition) ⌝ }
-    ensures { λ _. ⌜ now (partition .exit) ≡ laid from (cellsBy (now (image .entry)) (chunk .kind) (chunk .body) bytes) (now (partition .entry)) ⌝ }
-{
-    let end = from + bytes;
-    let body = chunk.body;
-    let kind = chunk.kind;
-    match kind {
-        Kind::Raw => put_raw(&mut partition[from..end], image, body),
-        Kind::Fill => put_fill(&mut partition[from..end], image, body),
-        Kind::DontCare => {}
-        Kind::Unknown => {}
-    }
-}
-
-// The lesser of two counts of blocks.
-fn least(a: u64, b: u64) -> u64
-    ensures { λ r. ⌜ r ≡ min a b ⌝ }
-{
-    if a <= b { a } else { b }
-}
-
-// How many blocks of a chunk are stored, where so many are still to be: none of a chunk that is skipped.
-fn taken(chunk: Chunk, left: u64) -> u64
-    ensures { λ r. ⌜ r ≡ min left (cond (writes (chunk .kind)) (chunk .blocks) 0) ⌝ }
-{
-    let kind = chunk.kind;
-    match kind {
-        Kind::Raw => least(left, chunk.blocks as u64),
-        Kind::Fill => least(left, chunk.blocks as u64),
-        Kind::DontCare => 0,
-        Kind::Unknown => 0,
-    }
-}
 
 // The first blocks of an accepted image, in order, so many as it is known to have; answers how many.
 fn store_blocks(image: &[u8], partition: &mut [u8], count: u64) -> Stored

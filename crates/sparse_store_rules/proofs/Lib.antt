@@ -6,5 +6,4 @@ pub mod Whole
 pub mod Blocks
 pub mod Storing
 pub mod Orders
-pub mod Lending
 pub mod CutChunks

@@ -1,8 +1,9 @@
 -- What the two passes over the runs keep: the one that measures the image, and the one that puts its chunks.
 -- Assumes nothing.
 use mathlib.Core.Path.{_≡_, refl, sym, ap, subst, _∙_}
+use mathlib.Core.Bool.{true}
 use mathlib.Core.List.{List, [], _++_}
-use Prim.Native.Nat.{ℕ, zero, suc, _+_, _-_, _*_, _%_, _≤_, _<_}
+use Prim.Native.Nat.{ℕ, zero, suc, _+_, _-_, _*_, _≤_, _<_}
 use native.Mathlib.Omega.{arith}
 use lib.ListN.{length, take, drop, length-append, take-append-drop}
 use lib.Seq.{sets, length-sets, drop-drop, drop-length}
@@ -10,6 +11,7 @@ use Rattle.fields_rules.specs.Number.{Bytes}
 use Rattle.fields_rules.proofs.Sets.{sets-append}
 use Rattle.crc32_rules.specs.Crc.{crcFrom, allOnes}
 use Rattle.crc32_rules.proofs.Laws.{crc-nil, crc-append}
+use Rattle.sparse_rules.specs.Header.{blockSizeRight}
 use Rattle.sparse_rules.specs.Cells.{tab, rawByte}
 use Rattle.sparse_rules.proofs.Cells.{length-tab}
 use Rattle.sparse_write_rules.specs.Kinds.{BlockKind, kept, raw, fill, storedKind}
@@ -18,9 +20,12 @@ use Rattle.sparse_write_rules.specs.Encode.{chunkSize, chunk, chunks}
 use Rattle.sparse_write_rules.proofs.Runs.{of, at-least, blocks-small}
 use Rattle.sparse_write_rules.proofs.KindCells.{Stores, stored-stores, WordFits, stored-fits, raw-part}
 use Rattle.sparse_write_rules.proofs.Chunks.{chunks-nil, chunks-cons, length-chunk}
-use Rattle.sparse_put.specs.Numbered.{kindNumbered, OfKind}
-use Rattle.sparse_put.proofs.Numbered.{number-stored, number-small, run-holds}
-use Rattle.sparse_write.specs.Scan.{kindsAt, runsAt, FirstRun}
+use Rattle.sparse_write_rules.proofs.FlatImage.{block-good}
+use Rattle.sparse_scan.specs.Numbered.{kindNumbered, OfKind}
+use Rattle.sparse_scan.proofs.Numbered.{number-stored, number-small, run-holds}
+use Rattle.sparse_scan.specs.Scan.{wholeBlocks, kindsAt, runsAt, firstKind, runBlocks, afterRun}
+use Rattle.sparse_scan.proofs.Whole.{whole-all}
+use Rattle.sparse_scan.proofs.Scanning.{FirstRun, first-is}
 
 -- ---- the first run, and those after it
 
@@ -42,6 +47,10 @@ unfolding runs kindsAt
 none-left f b at zero e = refl
 none-left f b at (suc n) e = absurd (omega arith)
 
+first-of : (f : ℕ → BlockKind) (n at : ℕ) → 0 < n → firstKind f n at ≡ f at
+first-of f zero at h = absurd (omega arith)
+first-of f (suc n) at h = refl
+
 size-small : (kind : BlockKind) (n : ℕ) → 4 ≤ n → chunkSize kind n ≤ 4 * n
 size-small kept n h = omega arith
 size-small raw n h = omega arith
@@ -51,29 +60,41 @@ size-small (fill w) n h = omega arith
 
 -- so many blocks are left from a place on, and the first of them is of this kind
 pub record Ahead (s : List ℕ) (b at left kind : ℕ) : Type 0 where
-  pub room : at + left * b ≤ length s
+  pub whole : at + left * b ≡ length s
   pub known : 0 < left → kindNumbered kind ≡ storedKind s b at
 
 -- at first all are
-pub ahead-start : (s : List ℕ) (b n kind : ℕ) → n * b ≤ length s → (0 < n → kindNumbered kind ≡ storedKind s b 0) → Ahead s b 0 n kind
-ahead-start s b n kind h e = record { room = omega arith; known = e }
+pub ahead-start : (s : List ℕ) (b n kind : ℕ) → blockSizeRight b ≡ true → n * b ≡ length s → kindNumbered kind ≡ firstKind (storedKind s b) (wholeBlocks (length s) b 0) 0
+    → Ahead s b 0 n kind
+ahead-start s b n kind right h e =
+    let w : 0 + n * b ≡ length s = omega arith in
+    record { whole = w; known = λ l. e ∙ rw (whole-all (length s) b 0 n right w) (first-of (storedKind s b) n 0 l) }
+
+-- what is found from there on is the first run of them
+pub ahead-run : {s : List ℕ} {b at left kind : ℕ} {k len next : ℕ} → Ahead s b at left kind → blockSizeRight b ≡ true → 0 < left
+    → k ≡ runBlocks (storedKind s b) b (kindNumbered kind) (wholeBlocks (length s) b at) at → len ≡ k * b
+    → kindNumbered next ≡ afterRun (storedKind s b) b (kindNumbered kind) (wholeBlocks (length s) b at) at
+    → FirstRun (storedKind s b) b left at kind k len next
+ahead-run {s} {b} {at} {left} {kind} a right h e long g =
+    let w = whole-all (length s) b at left right (a .whole) in
+    first-is (storedKind s b) b left at kind h (a .known h) (e ∙ rw w) long (g ∙ rw w)
 
 module _ {s : List ℕ} {b at left kind k len next : ℕ} (a : Ahead s b at left kind) (q : FirstRun (storedKind s b) b left at kind k len next) where
   -- after a run, the next
   pub ahead-next : Ahead s b (at + len) (left - k) next
-  ahead-next = record { room = omega (arith, a .room, q .rest); known = q .goes }
+  ahead-next = record { whole = omega (arith, a .whole, q .rest); known = q .goes }
 
   -- the run lies within the flat data
   pub ahead-inside : at + len ≤ length s
-  ahead-inside = omega (arith, a .room, q .rest)
+  ahead-inside = omega (arith, a .whole, q .rest)
 
   -- and has as many bytes as a block at least
   ahead-least : b ≤ len
   ahead-least = omega (arith, q .long, at-least k b (q .some))
 
   -- its blocks are no more than its bytes
-  pub ahead-few : 4 ≤ b → k ≤ len
-  ahead-few h = omega (arith, q .long, blocks-small k b h)
+  pub ahead-few : blockSizeRight b ≡ true → k ≤ len
+  ahead-few right = omega (arith, q .long, blocks-small k b (block-good b right .0))
 
   -- its kind is that of stored blocks
   pub ahead-stored : 0 < left → 0 < kind
@@ -94,11 +115,12 @@ pub measure-start : (s : List ℕ) (b n kind : ℕ) → Ahead s b 0 n kind → M
 measure-start s b n kind a = record { ahead = a; goes = refl; counts = omega arith; small = omega arith; few = omega arith }
 
 -- one run more
-pub measure-step : {s : List ℕ} {b n bytes count at left kind k len next : ℕ} (z : ℕ) → 4 ≤ b → Measured s b n bytes count at left kind
+pub measure-step : {s : List ℕ} {b n bytes count at left kind k len next : ℕ} (z : ℕ) → blockSizeRight b ≡ true → Measured s b n bytes count at left kind
     → FirstRun (storedKind s b) b left at kind k len next → z ≡ chunkSize (kindNumbered kind) len
     → Measured s b n (bytes + z) (count + 1) (at + len) (left - k) next
-measure-step {s} {b} {kind = kind} {k = k} {len = len} z h r q e =
+measure-step {s} {b} {kind = kind} {len = len} z right r q e =
     let l = ahead-least (r .ahead) q in
+    let h = block-good b right .0 in
     record {
       ahead = ahead-next (r .ahead) q;
       goes = omega (arith, r .goes, length-first q s, e);
@@ -121,17 +143,16 @@ measure-done {s} {b} {at = at} {left} e r =
 -- chunks are put up to a place of the output, and what is left makes up the image and its checksum
 pub record Put (s : List ℕ) (b n : ℕ) (out₀ out : List ℕ) (state pos at left kind : ℕ) : Type 0 where
   pub ahead : Ahead s b at left kind
-  pub whole : at + left * b ≡ length s
   pub fits : pos + length (chunks b s at (runsAt (storedKind s b) b left at)) ≤ length out
   pub long : length out ≡ length out₀
   pub goes : sets out₀ 28 (chunks b s 0 (runsAt (storedKind s b) b n 0)) ≡ sets out pos (chunks b s at (runsAt (storedKind s b) b left at))
   pub sum : crcFrom allOnes s ≡ crcFrom state (drop at s)
 
 -- before the first
-pub put-start : (s : List ℕ) (b n : ℕ) (out : List ℕ) (state kind : ℕ) → Ahead s b 0 n kind → n * b ≡ length s
+pub put-start : (s : List ℕ) (b n : ℕ) (out : List ℕ) (state kind : ℕ) → Ahead s b 0 n kind
     → 28 + length (chunks b s 0 (runsAt (storedKind s b) b n 0)) ≤ length out → state ≡ allOnes
     → Put s b n out out state 28 0 n kind
-put-start s b n out state kind a w h g = record { ahead = a; whole = omega arith; fits = h; long = refl; goes = refl; sum = rw g }
+put-start s b n out state kind a h g = record { ahead = a; fits = h; long = refl; goes = refl; sum = rw g }
 
 module _ {s : List ℕ} {b n : ℕ} {out₀ out : List ℕ} {state pos at left kind k len next : ℕ}
     (r : Put s b n out₀ out state pos at left kind) (q : FirstRun (storedKind s b) b left at kind k len next) where
@@ -152,10 +173,10 @@ module _ {s : List ℕ} {b n : ℕ} {out₀ out : List ℕ} {state pos at left k
   put-small small h = number-small kind (subst WordFits (sym (r .ahead .known h)) (stored-fits s small b at))
 
   -- and it holds what its kind says
-  pub put-holds : Bytes s → b % 4 ≡ 0 → 0 < left → OfKind (kindNumbered kind) (take (at + len - at) (drop at s))
-  put-holds small fours h =
+  pub put-holds : Bytes s → blockSizeRight b ≡ true → 0 < left → OfKind (kindNumbered kind) (take (at + len - at) (drop at s))
+  put-holds small right h =
       rw (part, q .long)
-      (run-holds s small b (kindNumbered kind) k at fours (subst Stores (sym (r .ahead .known h)) (stored-stores s b at))
+      (run-holds s small b (kindNumbered kind) k at (block-good b right .2) (subst Stores (sym (r .ahead .known h)) (stored-stores s b at))
       (subst WordFits (sym (r .ahead .known h)) (stored-fits s small b at)) (q .alike))
 
   -- one run more
@@ -168,7 +189,6 @@ module _ {s : List ℕ} {b n : ℕ} {out₀ out : List ℕ} {state pos at left k
       let m : at + len - at ≡ len = omega arith in
       record {
         ahead = ahead-next (r .ahead) q;
-        whole = omega (arith, r .whole, q .rest);
         fits = omega (arith, r .fits, e, length-first q s);
         long = omega (arith, r .long);
         goes = r .goes ∙ sets-first q s out pos ∙ rw (← e, ← h1);
@@ -184,5 +204,5 @@ pub put-done : {s : List ℕ} {b n : ℕ} {out₀ out : List ℕ} {state pos at 
     → (state ≡ crcFrom allOnes s) × (out ≡ sets out₀ 28 (chunks b s 0 (runsAt (storedKind s b) b n 0)))
 put-done {s} {b} {at = at} {left} e r =
     let z : 0 * b ≡ 0 = omega arith in
-    let w : at ≡ length s = omega (arith, r .whole, ap (λ (x : ℕ). x * b) e) in
+    let w : at ≡ length s = omega (arith, r .ahead .whole, ap (λ (x : ℕ). x * b) e) in
     (sym (r .sum ∙ rw (w, drop-length) (crc-nil _)), sym (r .goes ∙ rw (none-left (storedKind s b) b at left e, chunks-nil)))

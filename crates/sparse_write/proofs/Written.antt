@@ -21,7 +21,7 @@ use Rattle.sparse_write_rules.specs.Encode.{chunks, header}
 use Rattle.sparse_write_rules.specs.Write.{flatImage, lengthWrong, answer, output}
 use Rattle.sparse_write_rules.proofs.Chunks.{length-header}
 use Rattle.sparse_write_rules.proofs.FlatImage.{kind-tab, length-blocks, flat-image, block-good, length-good, refuse-12, accept}
-use Rattle.sparse_write.specs.Scan.{kindsAt, runsAt}
+use Rattle.sparse_scan.specs.Scan.{kindsAt, runsAt}
 
 -- the kinds of blocks of flat data are those of their places
 kinds-flat : (d : List ℕ) (b n at : ℕ) → 4 ≤ b → map (blockKind b) (blocksFrom d b n at) ≡ kindsAt (storedKind d b) b n at

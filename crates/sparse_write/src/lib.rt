@@ -3,23 +3,24 @@
 // The flat data are read three times at most: scanned twice, and copied where they are raw. The
 // checksum is worked out over raw data where they were put, and over a long fill run from its word.
 mod put;
-mod scan;
 
 use put::put_chunk;
-use scan::first_kind;
-use scan::first_run;
 use sparse_rules::Refusal;
+use sparse_scan::first_kind;
+use sparse_scan::first_run;
 use sparse_write_rules::Outcome;
 ghost use mathlib.Core.Path.{_≡_};
-ghost use Prim.Native.Nat.{_+_, _*_, _%_, _≤_, _<_};
+ghost use mathlib.Core.Bool.{true};
+ghost use Prim.Native.Nat.{_+_, _*_, _≤_, _<_};
 ghost use lib.ListN.{length};
 ghost use lib.Seq.{sets};
 ghost use Rattle.crc32_rules.specs.Crc.{crcFrom, allOnes};
+ghost use Rattle.sparse_rules.specs.Header.{blockSizeRight};
 ghost use Rattle.sparse_write_rules.specs.Kinds.{storedKind};
 ghost use Rattle.sparse_write_rules.specs.Encode.{chunkSize, chunks};
 ghost use Rattle.sparse_write_rules.specs.Write.{answerOf, answer, output};
-ghost use Rattle.sparse_put.specs.Numbered.{kindNumbered};
-ghost use Rattle.sparse_write.specs.Scan.{runsAt};
+ghost use Rattle.sparse_scan.specs.Numbered.{kindNumbered};
+ghost use Rattle.sparse_scan.specs.Scan.{runsAt};
 
 // An image's length, and its number of chunks.
 struct Extent {
@@ -36,8 +37,8 @@ fn chunk_size(kind: u64, n: usize) -> usize
 }
 
 // The extent of the image of n blocks, found before a byte of it is stored.
-fn measure(flat: &[u8], block: usize, n: usize) -> Extent
-    requires { ⌜ (n * block ≤ length (now flat)) × (4 ≤ block) × (block % 4 ≡ 0) × (length (now flat) ≤ 2147483648) ⌝ }
+fn measure(flat: &[u8], block: u32, n: usize) -> Extent
+    requires { ⌜ (n * block ≡ length (now flat)) × (blockSizeRight block ≡ true) × (length (now flat) ≤ 2147483648) ⌝ }
     ensures { λ r. ⌜ (r .bytes ≡ 28 + length (chunks block (now (flat .entry)) 0 (runsAt (storedKind (now (flat .entry)) block) block n 0)))
         × (r .chunks ≡ length (runsAt (storedKind (now (flat .entry)) block) block n 0)) ⌝ }
 {
@@ -45,9 +46,9 @@ fn measure(flat: &[u8], block: usize, n: usize) -> Extent
     let mut count: u32 = 0;
     let mut at: usize = 0;
     let mut left = n;
-    let mut kind = first_kind(flat, block, n);
+    let mut kind = first_kind(flat, block);
     while 0 < left {
-        let r = first_run(flat, block, at, left, kind);
+        let r = first_run(flat, block, at, kind);
         let blocks = r.blocks;
         let len = r.len;
         bytes = bytes + chunk_size(kind, len);
@@ -63,9 +64,9 @@ fn measure(flat: &[u8], block: usize, n: usize) -> Extent
 }
 
 // The chunks of n blocks, after the file header, and the checksum's state after their bytes.
-fn put_chunks(out: &mut [u8], flat: &[u8], block: usize, n: usize) -> u32
+fn put_chunks(out: &mut [u8], flat: &[u8], block: u32, n: usize) -> u32
     requires { ⌜ (28 + length (chunks block (now flat) 0 (runsAt (storedKind (now flat) block) block n 0)) ≤ length (now out))
-        × (n * block ≡ length (now flat)) × (4 ≤ block) × (block % 4 ≡ 0) × (length (now flat) ≤ 2147483648) ⌝ }
+        × (n * block ≡ length (now flat)) × (blockSizeRight block ≡ true) × (length (now flat) ≤ 2147483648) ⌝ }
     ensures { λ r. ⌜ (r ≡ crcFrom allOnes (now (flat .entry)))
         × (now (out .exit) ≡ sets (now (out .entry)) 28 (chunks block (now (flat .entry)) 0 (runsAt (storedKind (now (flat .entry)) block) block n 0))) ⌝ }
 {
@@ -73,9 +74,9 @@ fn put_chunks(out: &mut [u8], flat: &[u8], block: usize, n: usize) -> u32
     let mut pos: usize = 28;
     let mut at: usize = 0;
     let mut left = n;
-    let mut kind = first_kind(flat, block, n);
+    let mut kind = first_kind(flat, block);
     while 0 < left {
-        let r = first_run(flat, block, at, left, kind);
+        let r = first_run(flat, block, at, kind);
         let blocks = r.blocks;
         let len = r.len;
         let end = at + len;
@@ -108,11 +109,11 @@ pub fn write(flat: &[u8], block_size: u32, out: &mut [u8]) -> Outcome
         return refused(13);
     }
     let n = flat.len() / block;
-    let m = measure(flat, block, n);
+    let m = measure(flat, block_size, n);
     if out.len() < m.bytes {
         return refused(12);
     }
-    let state = put_chunks(out, flat, block, n);
+    let state = put_chunks(out, flat, block_size, n);
     sparse_put::put_header(out, block_size, n as u32, m.chunks, crc32::finish(state));
     Outcome::Written(m.bytes)
 }

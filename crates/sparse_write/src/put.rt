@@ -8,7 +8,7 @@ ghost use Rattle.crc32_rules.specs.Crc.{crcFrom};
 ghost use Rattle.crc32_rules.specs.Power.{repeated};
 ghost use Rattle.sparse_write_rules.specs.Kinds.{raw};
 ghost use Rattle.sparse_write_rules.specs.Encode.{chunkSize, chunk};
-ghost use Rattle.sparse_put.specs.Numbered.{kindNumbered, OfKind};
+ghost use Rattle.sparse_scan.specs.Numbered.{kindNumbered, OfKind};
 
 // From this length on, a run of one word costs less than its bytes one after the other.
 const LONG: usize = 128;

@@ -7,7 +7,7 @@ use borrow.Author.Needs.{needs}
 use lib.ListN.{length}
 use Rattle.sparse_rules.specs.Answers.{readingOf}
 use Rattle.sparse_store.proofs.Entries.{says-same}
-use Rattle.sparse_store.proofs.Turn.{Turn, turn-start, turn-done, not-refused, Here, passes, stretch, took-left, took-bytes, lent, turned}
+use Rattle.sparse_store.proofs.Turn.{Turn, turn-start, turn-done, not-refused, Here, passes, stretch, took-left, took-bytes, turned}
 use Rattle.sparse_store.proofs.store_blocks.Statement.{statement}
 use Rattle.sparse_store.proofs.store_blocks.Tie as tie
 
@@ -99,7 +99,7 @@ sub-left : tie.Need-sub-left Inv-loop μ-loop
 sub-left c = took-left (here (c .before .before .before)) (c .before .taken .ensures)
 
 store-chunk-requires : tie.Need-store-chunk-requires Inv-loop μ-loop
-store-chunk-requires c κs = lent (here (c .before .before .before .before)) (c .before .before .taken .ensures)
+store-chunk-requires c κs = search needs
 
 loop-less : tie.Need-loop-less Inv-loop μ-loop
 loop-less c = passes (here (c .before .before .before .before .before .before .before))

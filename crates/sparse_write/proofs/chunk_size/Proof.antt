@@ -3,7 +3,7 @@
 use Prim.Native.Nat.{_-_}
 use native.Mathlib.Omega.{arith}
 use borrow.Author.Needs.{needs}
-use Rattle.sparse_put.proofs.Numbered.{number-fill}
+use Rattle.sparse_scan.proofs.Numbered.{number-fill}
 use Rattle.sparse_write.proofs.chunk_size.Statement.{statement}
 use Rattle.sparse_write.proofs.chunk_size.Tie as tie
 

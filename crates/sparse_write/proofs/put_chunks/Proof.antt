@@ -4,8 +4,10 @@ use Prim.Native.Nat.{_+_, _≤_}
 use native.Mathlib.Omega.{arith}
 use borrow.Author.Needs.{needs}
 use lib.ListN.{length}
+use Rattle.sparse_write_rules.specs.Kinds.{storedKind}
+use Rattle.sparse_scan.proofs.Scanning.{FirstRun}
 use Rattle.fields_rules.specs.Number.{Bytes}
-use Rattle.sparse_write.proofs.Passes.{ahead-start, ahead-inside, ahead-few, ahead-stored, Put, put-start, put-long, put-fits, put-small, put-holds, put-step, put-done}
+use Rattle.sparse_write.proofs.Passes.{ahead-start, ahead-run, ahead-inside, ahead-few, ahead-stored, Put, put-start, put-long, put-fits, put-small, put-holds, put-step, put-done}
 use Rattle.sparse_write.proofs.put_chunks.Statement.{statement}
 use Rattle.sparse_write.proofs.put_chunks.Tie as tie
 
@@ -15,30 +17,32 @@ Inv-loop out₀ flat block n state₀ pos₀ at₀ left₀ kind₀ out state pos
 abbrev μ-loop : tie.MeasureT-loop
 μ-loop out₀ flat block n state₀ pos₀ at₀ left₀ kind₀ out state pos at left kind = left
 
--- the run lies within the flat data
+-- what is found is the first run of the blocks left
+run : (c : tie.After-first-run Inv-loop μ-loop)
+    → FirstRun (storedKind (c .before .before .before .before .before .before .before .args .flat .now) (c .before .before .before .before .before .before .before .args .block)) (c .before .before .before .before .before .before .before .args .block) (c .before .before .loop .left) (c .before .before .loop .at) (c .before .before .loop .kind) (c .first-run .result .blocks) (c .first-run .result .len) (c .first-run .result .next)
+run c =
+    let e = c .first-run .ensures in
+    ahead-run (c .before .before .loop .inv .ahead) (c .before .before .before .before .before .before .before .pre .2) (c .before .loop-test .taken) (e .0) (e .1) (e .2)
+
+-- it lies within the flat data
 inside : (c : tie.After-first-run Inv-loop μ-loop) → c .before .before .loop .at + c .first-run .result .len ≤ length (c .before .before .before .before .before .before .before .args .flat .now)
-inside c = ahead-inside (c .before .before .loop .inv .ahead) (c .first-run .ensures)
+inside c = ahead-inside (c .before .before .loop .inv .ahead) (run c)
 
 start-requires : tie.Need-start-requires Inv-loop μ-loop
 start-requires c κs = search needs
 
 first-kind-requires : tie.Need-first-kind-requires Inv-loop μ-loop
-first-kind-requires c κs =
-    let start = c .before .before .before in
-    (omega (arith, start .pre .1), start .pre .2, start .pre .3)
+first-kind-requires c κs = search needs
 
 loop-holds : tie.Need-loop-holds Inv-loop μ-loop
 loop-holds c =
     let start = c .before .before .before .before in
     put-start _ _ _ (start .args .out .now) (c .before .start .result) _
-    (ahead-start (start .args .flat .now) (start .args .block) (start .args .n) (c .first-kind .result) (omega (arith, start .pre .1)) (c .first-kind .ensures))
-    (start .pre .1) (start .pre .0) (c .before .start .ensures)
+    (ahead-start (start .args .flat .now) (start .args .block) (start .args .n) (c .first-kind .result) (start .pre .2) (start .pre .1) (c .first-kind .ensures))
+    (start .pre .0) (c .before .start .ensures)
 
 first-run-requires : tie.Need-first-run-requires Inv-loop μ-loop
-first-run-requires c κs =
-    let l = c .before .loop in
-    let start = c .before .before .before .before .before .before in
-    (l .inv .ahead .room, start .pre .2, start .pre .3, c .loop-test .taken, l .inv .ahead .known (c .loop-test .taken))
+first-run-requires c κs = search needs
 
 add-end : tie.Need-add-end Inv-loop μ-loop
 add-end c = omega (arith, inside c)
@@ -55,13 +59,13 @@ part-put-chunk-end c = omega (arith, inside (c .before))
 cast-put-chunk : tie.Need-cast-put-chunk Inv-loop μ-loop
 cast-put-chunk c =
     let start = c .before .before .before .before .before .before .before .before .before in
-    omega (arith, inside (c .before .before), ahead-few (c .before .before .before .before .loop .inv .ahead) (c .before .before .first-run .ensures) (start .pre .2))
+    omega (arith, inside (c .before .before), ahead-few (c .before .before .before .before .loop .inv .ahead) (run (c .before .before)) (start .pre .2))
 
 put-chunk-requires : tie.Need-put-chunk-requires Inv-loop μ-loop
 put-chunk-requires c κs =
     let l = c .before .before .before .before .loop in
     let start = c .before .before .before .before .before .before .before .before .before in
-    let q = c .before .before .first-run .ensures in
+    let q = run (c .before .before) in
     let small : Bytes (start .args .flat .now) = λ i. omega (arith, c .before .before .before .before .before .before .before .shared-slice-known .given i) in
     let some = c .before .before .before .loop-test .taken in
     let long = put-long (l .inv) q in (
@@ -69,31 +73,31 @@ put-chunk-requires c κs =
       omega (arith, inside (c .before .before), long),
       ahead-stored (l .inv .ahead) q some,
       put-small (l .inv) q small some,
-      put-holds (l .inv) q small (start .pre .3) some,
+      put-holds (l .inv) q small (start .pre .2) some,
     )
 
 chunk-size-requires : tie.Need-chunk-size-requires Inv-loop μ-loop
 chunk-size-requires c κs =
     let ran = c .before .before .before .before .before in
-    (ahead-stored (ran .before .before .loop .inv .ahead) (ran .first-run .ensures) (ran .before .loop-test .taken), omega (arith, inside ran))
+    (ahead-stored (ran .before .before .loop .inv .ahead) (run ran) (ran .before .loop-test .taken), omega (arith, inside ran))
 
 add-pos : tie.Need-add-pos Inv-loop μ-loop
 add-pos c =
     let ran = c .before .before .before .before .before .before in
-    omega (arith, c .chunk-size .ensures .0, put-fits (ran .before .before .loop .inv) (ran .first-run .ensures))
+    omega (arith, c .chunk-size .ensures .0, put-fits (ran .before .before .loop .inv) (run ran))
 
 sub-left : tie.Need-sub-left Inv-loop μ-loop
-sub-left c = omega (arith, c .before .before .before .before .before .before .first-run .ensures .fits)
+sub-left c = omega (arith, run (c .before .before .before .before .before .before) .fits)
 
 loop-less : tie.Need-loop-less Inv-loop μ-loop
 loop-less c =
-    let q = c .before .before .before .before .before .before .first-run .ensures in
+    let q = run (c .before .before .before .before .before .before) in
     omega (arith, q .some, q .fits)
 
 loop-again : tie.Need-loop-again Inv-loop μ-loop
 loop-again c =
     let ran = c .before .before .before .before .before .before in
-    put-step (ran .before .before .loop .inv) (ran .first-run .ensures) (c .chunk-size .result) _ _ (c .chunk-size .ensures .0)
+    put-step (ran .before .before .loop .inv) (run ran) (c .chunk-size .result) _ _ (c .chunk-size .ensures .0)
     (c .before .before .before .put-chunk .ensures .0) (c .before .before .before .put-chunk .ensures .1)
 
 same-length : tie.Need-same-length Inv-loop μ-loop

@@ -53,9 +53,8 @@ div-n c = omega (arith, block-good (c .before .before .before .before .before .a
 measure-requires : tie.Need-measure-requires
 measure-requires c κs =
     let a = c .before .before .before .before .before .args in
-    let b = block-good (a .block-size) (right (c .before)) in
     let l = length-good (length (a .flat .now)) (a .block-size) (whole c) in
-    (omega (arith, l .1), b .0, b .2, l .0)
+    (l .1, right (c .before), l .0)
 
 refused-requires-3 : tie.Need-refused-requires-3
 refused-requires-3 c κs = search needs
@@ -72,9 +71,8 @@ put-chunks-requires : tie.Need-put-chunks-requires
 put-chunks-requires c κs =
     let passed = c .before .before .before .before in
     let a = passed .before .before .before .before .before .args in
-    let b = block-good (a .block-size) (right (passed .before)) in
     let l = length-good (length (a .flat .now)) (a .block-size) (whole passed) in
-    (omega (arith, c .before .before .before .measure .ensures .0, c .before .if3 .left), l .1, b .0, b .2, l .0)
+    (omega (arith, c .before .before .before .measure .ensures .0, c .before .if3 .left), l .1, right (passed .before), l .0)
 
 cast-put-header : tie.Need-cast-put-header
 cast-put-header c =

@@ -4,8 +4,8 @@ use mathlib.Core.Path.{_≡_, _∙_}
 use Prim.Native.Nat.{_-_}
 use native.Mathlib.Omega.{arith}
 use Rattle.sparse_write_rules.specs.Kinds.{fill}
-use Rattle.sparse_put.specs.Numbered.{kindNumbered}
-use Rattle.sparse_put.proofs.Numbered.{number-fill}
+use Rattle.sparse_scan.specs.Numbered.{kindNumbered}
+use Rattle.sparse_scan.proofs.Numbered.{number-fill}
 use Rattle.sparse_put.proofs.Putting.{fill-fits}
 use borrow.Author.Needs.{needs}
 use Rattle.sparse_write.proofs.put.put_chunk.Statement.{statement}

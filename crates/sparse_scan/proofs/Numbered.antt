@@ -14,7 +14,7 @@ use Rattle.sparse_rules.proofs.SumLaws.{words}
 use Rattle.sparse_rules.proofs.Image.{fill-cells}
 use Rattle.sparse_write_rules.specs.Kinds.{BlockKind, kept, raw, fill, storedKind}
 use Rattle.sparse_write_rules.proofs.KindCells.{WordFits, Stores, run-cells}
-use Rattle.sparse_put.specs.Numbered.{kindNumbered, OfKind}
+use Rattle.sparse_scan.specs.Numbered.{kindNumbered, OfKind}
 
 -- ---- numbers
 

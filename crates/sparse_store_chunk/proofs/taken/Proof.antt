@@ -1,10 +1,10 @@
--- `sparse_store::taken` meets its contract: the blocks of a raw or fill chunk are written, all other are skipped.
+-- `sparse_store_chunk::taken` meets its contract: the blocks of a raw or fill chunk are written, all other are skipped.
 -- Assumes nothing.
 use mathlib.Core.Path.{sym}
 use native.Mathlib.Nat.{min-zero}
 use borrow.Author.Needs.{needs}
-use Rattle.sparse_store.proofs.taken.Statement.{statement}
-use Rattle.sparse_store.proofs.taken.Tie as tie
+use Rattle.sparse_store_chunk.proofs.taken.Statement.{statement}
+use Rattle.sparse_store_chunk.proofs.taken.Tie as tie
 
 enum-told : tie.Need-enum-told
 enum-told c = search needs

@@ -12,8 +12,8 @@ use Rattle.sparse_write_rules.specs.Kinds.{BlockKind, kept, sameKind, allEqual}
 use Rattle.sparse_write_rules.specs.Runs.{inFront, runs}
 use Rattle.sparse_write_rules.proofs.KindSteps.{equal-none, equal-next, equal-differs}
 use Rattle.sparse_write_rules.proofs.Runs.{split-blocks, tells-kinds, of, apart, differ, front-same, front-other}
-use Rattle.sparse_put.specs.Numbered.{kindNumbered}
-use Rattle.sparse_write.specs.Scan.{kindsAt, runsAt, leading, following, FirstRun}
+use Rattle.sparse_scan.specs.Numbered.{kindNumbered}
+use Rattle.sparse_scan.specs.Scan.{kindsAt, runsAt, firstKind, leading, following, runBlocks, afterRun}
 
 -- ---- the words of a block
 
@@ -80,8 +80,7 @@ module _ (f : ℕ → BlockKind) (b : ℕ) (kind : BlockKind) where
   following-on zero at h e = absurd (not-suc-le-zero h)
   following-on (suc n) at h e = rw (tells-kinds .complete (f at) kind e, sub-one)
 
-  -- a block of another kind is the one that follows
-  pub following-off : (n at : ℕ) → 0 < n → (f at ≡ kind → ⊥) → following f b kind n at ≡ f at
+  following-off : (n at : ℕ) → 0 < n → (f at ≡ kind → ⊥) → following f b kind n at ≡ f at
   unfolding following
   following-off zero at h d = absurd (not-suc-le-zero h)
   following-off (suc n) at h d = rw (differ sameKind tells-kinds (f at) kind d)
@@ -175,22 +174,57 @@ run-on f b kind (suc n) at =
           goes = λ h. rw z;
         }
 
--- what a scan from the second block on finds is the first run
-pub first-is : (f : ℕ → BlockKind) (b n at kind m k : ℕ) → 0 < n → kindNumbered kind ≡ f at → m ≡ leading f b (kindNumbered kind) (n - 1) (at + b)
-    → kindNumbered k ≡ following f b (kindNumbered kind) (n - 1) (at + b) → FirstRun f b n at kind (m + 1) ((m + 1) * b) k
-unfolding kindsAt runs
-first-is f b zero at kind m k h e l g = absurd (not-suc-le-zero h)
-first-is f b (suc n) at kind m k h e l g =
+-- where there is no block, nothing is found
+pub run-none : (f : ℕ → BlockKind) (b : ℕ) (kind : BlockKind) (n at : ℕ) → n ≡ 0 → (0 ≡ runBlocks f b kind n at) × (kept ≡ afterRun f b kind n at) × (kept ≡ firstKind f n at)
+run-none f b kind zero at e = (refl, refl, refl)
+run-none f b kind (suc n) at e = absurd (omega arith)
+
+-- where there is one, the scan goes from the second on
+pub run-some : (f : ℕ → BlockKind) (b : ℕ) (kind : BlockKind) (n at : ℕ) {m : ℕ} {k : BlockKind} → 0 < n → m ≡ leading f b kind (n - 1) (at + b) → k ≡ following f b kind (n - 1) (at + b)
+    → (m + 1 ≡ runBlocks f b kind n at) × (k ≡ afterRun f b kind n at) × (m + 1 ≤ n)
+run-some f b kind zero at h l g = absurd (not-suc-le-zero h)
+run-some f b kind (suc n) at h l g =
     let one : suc n - 1 ≡ n = omega arith in
-    let r : Ends f b (kindNumbered kind) n (at + b) m (kindNumbered k) = rw (← (rw one at l), ← (rw one at g)) at (run-on f b (kindNumbered kind) n (at + b)) in
-    let q : suc n - (m + 1) ≡ n - m = omega arith in
-    let p : at + (m + 1) * b ≡ at + b + m * b = omega (arith, suc-mul m b, ap (λ (j : ℕ). j * b) (add-one m)) in
+    let m : _ ≡ leading f b kind n (at + b) = rw one at l in
+    (omega arith, rw one at g, omega (arith, run-on f b kind n (at + b) .fits))
+
+-- what follows those of a kind that the first block is not is the first block
+pub first-follows : (f : ℕ → BlockKind) (b : ℕ) (kind : BlockKind) (n at : ℕ) {k : BlockKind} → 0 < n → (f at ≡ kind → ⊥) → k ≡ following f b kind n at → k ≡ firstKind f n at
+first-follows f b kind zero at h d g = absurd (not-suc-le-zero h)
+first-follows f b kind (suc n) at h d g = g ∙ following-off f b kind (suc n) at h d
+
+-- the first run of n blocks: its kind's number, how many blocks and bytes it has, and the number of the kind after it
+pub record FirstRun (f : ℕ → BlockKind) (b n at kind many len next : ℕ) : Type 0 where
+  -- it stands before the runs of the blocks after it
+  pub first : runsAt f b n at ≡ of (kindNumbered kind) many ∷ runsAt f b (n - many) (at + len)
+  -- it has a block, and no more than there are
+  pub some : 0 < many
+  pub fits : many ≤ n
+  -- its bytes are those of its blocks
+  pub long : len ≡ many * b
+  -- and with those of the blocks after it they are all
+  pub rest : len + (n - many) * b ≡ n * b
+  -- each of its blocks is of its kind
+  pub alike : (j : ℕ) → j < many → f (at + j * b) ≡ kindNumbered kind
+  -- and the one after it, where one is left, is of the next
+  pub goes : 0 < n - many → kindNumbered next ≡ f (at + len)
+
+-- what is found from a block of the first run's kind on is the first run
+pub first-is : (f : ℕ → BlockKind) (b n at kind : ℕ) {m len k : ℕ} → 0 < n → kindNumbered kind ≡ f at → m ≡ runBlocks f b (kindNumbered kind) n at
+    → len ≡ m * b → kindNumbered k ≡ afterRun f b (kindNumbered kind) n at → FirstRun f b n at kind m len k
+unfolding kindsAt runs
+first-is f b zero at kind h e l w g = absurd (not-suc-le-zero h)
+first-is f b (suc n) at kind {m} {len} {k} h e l w g =
+    let j : ℕ = leading f b (kindNumbered kind) n (at + b) in
+    let r : Ends f b (kindNumbered kind) n (at + b) j (kindNumbered k) = rw (← g) at (run-on f b (kindNumbered kind) n (at + b)) in
+    let q : suc n - suc j ≡ n - j = omega arith in
+    let p : at + len ≡ at + b + j * b = omega (arith, w, suc-mul j b, ap (λ (x : ℕ). x * b) l) in
     record {
-      first = ap (λ (x : BlockKind). inFront sameKind x (runsAt f b n (at + b))) (sym e) ∙ r .runs-on ∙ rw (q, p, add-one);
+      first = ap (λ (x : BlockKind). inFront sameKind x (runsAt f b n (at + b))) (sym e) ∙ r .runs-on ∙ rw (l, q, p);
       some = omega arith;
       fits = omega (arith, r .fits);
-      long = refl;
-      rest = split-blocks (suc n) (m + 1) b (omega (arith, r .fits));
-      alike = λ j j<. next-alike f b (kindNumbered kind) m at (sym e) (r .alike) j (omega arith);
+      long = w;
+      rest = rw w (split-blocks (suc n) m b (omega (arith, r .fits)));
+      alike = λ i i<. next-alike f b (kindNumbered kind) j at (sym e) (r .alike) i (omega arith);
       goes = λ z. r .goes (omega arith) ∙ rw p;
     }

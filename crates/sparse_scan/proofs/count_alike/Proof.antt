@@ -1,4 +1,4 @@
--- `sparse_write::scan::count_alike` meets its contract. The outer invariant: the blocks passed are of the kind, and on those left hangs what is found;
+-- `sparse_scan::count_alike` meets its contract. The outer invariant: the blocks passed are of the kind, and on those left hangs what is found;
 -- the inner one: on the words left hangs whether the block is filled with its first. Assumes nothing.
 use mathlib.Core.Path.{_≡_, refl, sym, ap, _∙_}
 use Prim.Native.Nat.{_+_, _-_, _/_, _≤_}
@@ -6,12 +6,12 @@ use native.Mathlib.Omega.{arith}
 use borrow.Author.Needs.{needs}
 use lib.ListN.{length}
 use Rattle.sparse_write_rules.specs.Kinds.{raw, allEqual, storedKind}
-use Rattle.sparse_put.specs.Numbered.{kindNumbered}
-use Rattle.sparse_put.proofs.Numbered.{one-number, number-fill}
+use Rattle.sparse_scan.specs.Numbered.{kindNumbered}
+use Rattle.sparse_scan.proofs.Numbered.{one-number, number-fill}
 use Rattle.sparse_write_rules.proofs.KindSteps.{kind-raw, kind-fill}
-use Rattle.sparse_write.proofs.Scanning.{Rest, rest-next, rest-differs, rest-done, rest-first, Scanned, scan-start, scan-room, scan-on, scan-stop, scan-end}
-use Rattle.sparse_write.proofs.scan.count_alike.Statement.{statement}
-use Rattle.sparse_write.proofs.scan.count_alike.Tie as tie
+use Rattle.sparse_scan.proofs.Scanning.{Rest, rest-next, rest-differs, rest-done, rest-first, Scanned, scan-start, scan-room, scan-on, scan-stop, scan-end}
+use Rattle.sparse_scan.proofs.count_alike.Statement.{statement}
+use Rattle.sparse_scan.proofs.count_alike.Tie as tie
 
 abbrev Inv-loop : tie.InvT-loop
 Inv-loop flat block from n kind blocks₀ at start first i₀ blocks i =

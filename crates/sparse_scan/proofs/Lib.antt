@@ -1,0 +1,3 @@
+pub mod Numbered
+pub mod Whole
+pub mod Scanning
