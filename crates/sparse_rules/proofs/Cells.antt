@@ -69,6 +69,14 @@ pub blocks-cons : (k : Chunk) (ks : List Chunk) → written (k ∷ ks) + skipped
 unfolding written skipped
 blocks-cons k ks = blocksWhere-all writes k ks
 
+-- at most all blocks of a chunk are written
+pub stored-most : (k : Chunk) → cond (writes (k .kind)) (k .blocks) 0 ≤ k .blocks
+stored-most k = go (writes (k .kind))
+  where
+    go : (x : Bool) → cond x (k .blocks) 0 ≤ k .blocks
+    go true = omega arith
+    go false = omega arith
+
 -- written blocks, one chunk more
 pub written-cons : (k : Chunk) (ks : List Chunk) → written (k ∷ ks) ≡ cond (writes (k .kind)) (k .blocks) 0 + written ks
 unfolding written

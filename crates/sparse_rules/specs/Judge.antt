@@ -13,9 +13,13 @@ use Rattle.sparse_rules.specs.Walk.{Finding, walk, origin}
 use Rattle.rules.specs.Answer.{refused, accepted, unless, onward}
 use Rattle.sparse_rules.specs.Cells.{cells, checksumOf}
 
--- 11: the checksum "must equal the header field"
+-- the checksum "must equal the header field"
+abbrev pub sumDiffers : ℕ → ℕ → Bool
+sumDiffers sum stated = not (eqb sum stated)
+
+-- refusal 11
 unfoldable pub sumTests : List ℕ → List Chunk → List (Bool × ℕ)
-sumTests s ks = (not (eqb (checksumOf s (blockSize s) ks) (statedChecksum s)), 11) ∷ []
+sumTests s ks = (sumDiffers (checksumOf s (blockSize s) ks) (statedChecksum s), 11) ∷ []
 
 -- where the structure holds, the checksum decides; its refusal's place is 24
 unfoldable pub summed : List ℕ → Finding → Finding

@@ -17,6 +17,7 @@ use Rattle.sparse_rules.specs.Cells.{writes, written, skipped}
 use Rattle.sparse_rules.specs.Answers.{Counts, counts, answerFor}
 use Rattle.sparse_rules.proofs.Walk.{walk-end, walk-refused, walk-read}
 use Rattle.sparse_rules.proofs.Facts.{chunk-facts}
+use Rattle.sparse_rules.proofs.Cells.{stored-most}
 
 -- the answer that a finding asks for, where so many blocks were written and so many skipped before
 unfoldable pub tally : ℕ → ℕ → Finding → Answer Counts
@@ -41,14 +42,6 @@ tally-more w q k (accepted ks) = go (writes (k .kind))
         ≡ counts (w + cond x (k .blocks) 0 + written ks) (q + (k .blocks - cond x (k .blocks) 0) + skipped ks)
     go true = ap₂ counts (omega arith) (omega arith)
     go false = ap₂ counts (omega arith) (omega arith)
-
--- at most all blocks of a chunk are written
-pub stored-most : (k : Chunk) → cond (writes (k .kind)) (k .blocks) 0 ≤ k .blocks
-stored-most k = go (writes (k .kind))
-  where
-    go : (x : Bool) → cond x (k .blocks) 0 ≤ k .blocks
-    go true = omega arith
-    go false = omega arith
 
 -- a turn of the walk: so many chunks left from a cursor on, so many blocks written and skipped before it
 pub record Tallied (s : List ℕ) (h : Header) (n : ℕ) (c : Cursor) (w q : ℕ) : Type 0 where

@@ -8,7 +8,8 @@ use borrow.Author.Needs.{needs}
 use Rattle.sparse_rules.specs.Chunks.{chunk, reading}
 use Rattle.sparse_rules.specs.Answers.{readingOf}
 use Rattle.sparse_rules.proofs.Facts.{chunk-facts}
-use Rattle.sparse_structure.proofs.Tally.{Tallied, stored-most, tally-start, tally-step, tally-refused, tally-short, tally-more-bytes, tally-done}
+use Rattle.sparse_rules.proofs.Cells.{stored-most}
+use Rattle.sparse_structure.proofs.Tally.{Tallied, tally-start, tally-step, tally-refused, tally-short, tally-more-bytes, tally-done}
 use Rattle.sparse_structure.proofs.structure.Statement.{statement}
 use Rattle.sparse_structure.proofs.structure.Tie as tie
 
