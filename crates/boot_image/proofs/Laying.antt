@@ -18,7 +18,7 @@ use Rattle.boot_rules.specs.Table.{field, has, sizeFields}
 use Rattle.boot_rules.specs.Tests.{anyOf, tooFar}
 use Rattle.rules.specs.Answer.{accepted, refused}
 use Rattle.rules.proofs.Tests.{or-left, or-right}
-use Rattle.boot_image.proofs.Ends.{any-six}
+use Rattle.boot_bounds.proofs.Ends.{any-six}
 use Rattle.boot_rules.proofs.Rounding.{page}
 use Rattle.boot_image.proofs.Carrying.{fits-of, start-fits, start-past}
 

@@ -1,4 +1,3 @@
 pub mod Carrying
-pub mod Ends
 pub mod Judging
 pub mod Laying

@@ -4,12 +4,12 @@
 mod pages;
 mod sections;
 
+use boot_bounds::any_overrun;
+use boot_bounds::misplaced;
 use boot_header::offset_in;
 use boot_header::tests::header_refusal;
 use boot_rules::Located;
-use sections::any_overrun;
 use sections::lay;
-use sections::misplaced;
 ghost use mathlib.Core.Path.{_≡_};
 ghost use Rattle.boot_rules.specs.Tests.{answer, answerOf};
 

@@ -11,9 +11,9 @@ use boot_rules::Section;
 ghost use mathlib.Core.Path.{_≡_};
 ghost use mathlib.Core.Bool.{true};
 ghost use Rattle.boot_rules.specs.Pages.{isPage};
-ghost use Rattle.boot_rules.specs.Sections.{versionOf, pageIn, sectionsOf, sectionsIn};
+ghost use Rattle.boot_rules.specs.Sections.{versionOf, pageIn, sectionsOf};
 ghost use Rattle.boot_rules.specs.Table.{isWord, field};
-ghost use Rattle.boot_rules.specs.Tests.{anyOf, misplaced, overruns, answerOf};
+ghost use Rattle.boot_rules.specs.Tests.{answerOf};
 ghost use Rattle.boot_image.specs.Steps.{StepOver, laidOut};
 
 // A step over one section: the section, `past` where its position does not fit in 64 bits, and
@@ -91,37 +91,4 @@ pub(crate) fn lay(image: &[u8]) -> Located
         dtb,
         signature,
     })
-}
-
-// Whether the recovery section is not empty and its offset field is not its position.
-pub(crate) fn misplaced(offset: u64, x: Section) -> bool
-    ensures { λ r. ⌜ r ≡ misplaced offset x ⌝ }
-{
-    (x.size != 0) & (offset != x.position)
-}
-
-// Whether a section is not empty and ends past `n` bytes.
-fn overrun(n: u64, x: Section) -> bool
-    ensures { λ r. ⌜ r ≡ overruns n x ⌝ }
-{
-    let size = x.size as u64;
-    if size == 0 {
-        return false;
-    }
-    if n < size {
-        return true;
-    }
-    n - size < x.position
-}
-
-// Whether some section is not empty and ends past `n` bytes.
-pub(crate) fn any_overrun(n: u64, l: Layout) -> bool
-    ensures { λ r. ⌜ r ≡ anyOf (overruns n) (sectionsIn l) ⌝ }
-{
-    overrun(n, l.kernel)
-        | overrun(n, l.ramdisk)
-        | overrun(n, l.second)
-        | overrun(n, l.recovery)
-        | overrun(n, l.dtb)
-        | overrun(n, l.signature)
 }

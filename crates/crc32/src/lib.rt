@@ -4,13 +4,10 @@
 // `finish(update(start(), bytes))` is the checksum of bytes; calls of `update`, `update_zeros` and
 // `update_word` in a row give the state over the pieces one after the other. A run of n zero bytes
 // or of n words costs O(log n) steps for every n, so 2^48 bytes take microseconds.
-mod lanes;
-mod step;
-
+use crc32_lanes::abreast;
+use crc32_lanes::serial;
 pub use crc32_runs::update_word;
 pub use crc32_runs::update_zeros;
-use lanes::abreast;
-use lanes::serial;
 ghost use mathlib.Core.Path.{_≡_};
 ghost use mathlib.Core.List.{List};
 ghost use Prim.Native.Nat.{ℕ};

@@ -1,51 +1,22 @@
-// The sparse format, piece by piece: the chunk reader, and the file header's functions with it.
+// The sparse format, piece by piece: the chunk reader, and the functions of the file header and of kinds with it.
 ghost use mathlib.Core.Path.{_≡_};
 ghost use Prim.Native.Nat.{_+_};
 ghost use lib.ListN.{length};
 ghost use Rattle.fields_rules.specs.Number.{numberAt};
-ghost use Rattle.sparse_rules.specs.Chunks.{kindOf, sizeRight, reading};
+ghost use Rattle.sparse_rules.specs.Chunks.{reading};
 ghost use Rattle.sparse_rules.specs.Answers.{readingOf, refusalIn};
 pub use sparse_header::block_right;
 pub use sparse_header::bytes_of;
 pub use sparse_header::header_refusal;
 pub use sparse_header::read_header;
 pub use sparse_header::sizes_right;
+pub use sparse_kind::kind_of;
+pub use sparse_kind::size_right;
 use sparse_rules::Chunk;
 use sparse_rules::ChunkRead;
 use sparse_rules::Cursor;
 use sparse_rules::Header;
-use sparse_rules::Kind;
 use sparse_rules::Refusal;
-
-// What a chunk's type says of it.
-pub fn kind_of(t: u16) -> Kind
-    ensures { λ r. ⌜ r ≡ kindOf t ⌝ }
-{
-    if t == 0xCAC1 {
-        return Kind::Raw;
-    }
-    if t == 0xCAC2 {
-        return Kind::Fill;
-    }
-    if t == 0xCAC3 {
-        return Kind::DontCare;
-    }
-    Kind::Unknown
-}
-
-// Whether a chunk's total size is right for its kind, at every header.
-pub fn size_right(header: Header, kind: Kind, blocks: u32, size: u32) -> bool
-    ensures { λ r. ⌜ r ≡ sizeRight header kind blocks size ⌝ }
-{
-    let head = header.head as u64;
-    let given = size as u64;
-    match kind {
-        Kind::Raw => given == head + bytes_of(blocks, header.block),
-        Kind::Fill => given == head + 4,
-        Kind::DontCare => given == head,
-        Kind::Unknown => (head <= given) & (given % 4 == 0),
-    }
-}
 
 // The four bytes so many past a place: a place past the largest usize is past the end too, and reads as 0.
 fn field(image: &[u8], at: usize, offset: usize) -> u32

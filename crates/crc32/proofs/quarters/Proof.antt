@@ -53,14 +53,7 @@ part-abreast-end-3 : tie.Need-part-abreast-end-3
 part-abreast-end-3 c = search needs
 
 abreast-requires : tie.Need-abreast-requires
-abreast-requires c κs =
-    let src = c .before .before .before .before .before .args .src .now in
-    let n = length src / 4 in
-    let first = length-take-le n src (omega arith) in
-    let second = part-length n (n + n) src (omega arith) (omega arith) in
-    let third = part-length (n + n) (n + n + n) src (omega arith) (omega arith) in
-    let fourth = part-length (n + n + n) (n + n + n + n) src (omega arith) (omega arith) in
-    (omega arith, omega arith, omega arith)
+abreast-requires c κs = search needs
 
 join-requires : tie.Need-join-requires
 join-requires c κs = search needs

@@ -1,0 +1,77 @@
+-- `sparse_stream_feed::heads::pass_chunk` meets its contract. Assumes nothing.
+use native.Mathlib.Omega.{arith}
+use Rattle.sparse_stream_rules.proofs.StateLaws.{chunk-fits}
+use borrow.Author.Needs.{needs}
+use Rattle.sparse_stream_feed.proofs.heads.pass_chunk.Statement.{statement}
+use Rattle.sparse_stream_feed.proofs.heads.pass_chunk.Tie as tie
+
+kind-now-requires : tie.Need-kind-now-requires
+kind-now-requires c κs = search needs
+
+blocks-now-requires : tie.Need-blocks-now-requires
+blocks-now-requires c κs = search needs
+
+size-now-requires : tie.Need-size-now-requires
+size-now-requires c κs = search needs
+
+cast-less : tie.Need-cast-less
+cast-less c = search needs
+
+add-less : tie.Need-add-less
+add-less c = let f = chunk-fits (c .before .before .before .before .args .x) (c .before .before .before .before .pre .0) in omega (arith, f .0, c .before .size-now .ensures)
+
+add-t12 : tie.Need-add-t12
+add-t12 c = let f = chunk-fits (c .before .before .before .before .before .args .x) (c .before .before .before .before .before .pre .0) in omega (arith, f .1, c .before .before .before .blocks-now .ensures, c .before .before .before .before .before .pre .1)
+
+cast-less-2 : tie.Need-cast-less-2
+cast-less-2 c = search needs
+
+less-requires : tie.Need-less-requires
+less-requires c κs = search needs
+
+cast-t12 : tie.Need-cast-t12
+cast-t12 c = search needs
+
+blocks-written-requires : tie.Need-blocks-written-requires
+blocks-written-requires c κs = search needs
+
+wrapping-add-u32-requires : tie.Need-wrapping-add-u32-requires
+wrapping-add-u32-requires c κs = search needs
+
+span-now-requires : tie.Need-span-now-requires
+span-now-requires c κs = search needs
+
+skip-sum-requires : tie.Need-skip-sum-requires
+skip-sum-requires c κs = search needs
+
+returns : tie.Need-returns
+returns c =
+    rw (
+      c .skip-sum .ensures,
+      c .before .span-now .ensures,
+      c .before .before .wrapping-add-u32 .ensures,
+      c .before .before .before .blocks-written .ensures,
+      c .before .before .before .before .less .ensures,
+      c .before .before .before .before .before .before .before .before .size-now .ensures,
+      c .before .before .before .before .before .before .before .before .before .blocks-now .ensures,
+      c .before .before .before .before .before .before .before .before .before .before .kind-now .ensures,
+    )
+
+pub pass-chunk-spec : {M : Type 1} → statement M
+pass-chunk-spec =
+    tie.close
+    (tie.spec
+    kind-now-requires
+    blocks-now-requires
+    size-now-requires
+    cast-less
+    add-less
+    add-t12
+    cast-less-2
+    less-requires
+    cast-t12
+    blocks-written-requires
+    wrapping-add-u32-requires
+    span-now-requires
+    skip-sum-requires
+    returns)

@@ -1,0 +1,16 @@
+pub mod StateLaws
+pub mod Stretches
+pub mod Taken
+pub mod Calls
+pub mod Testing
+pub mod Due
+pub mod Standing
+pub mod OneByte
+pub mod ChunkHeader
+pub mod EveryByte
+pub mod Found
+pub mod Meaning
+pub mod Passes
+pub mod Growth
+pub mod EachCall
+pub mod Theorems

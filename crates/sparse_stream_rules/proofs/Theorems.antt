@@ -1,0 +1,38 @@
+-- The theorems about passes.
+-- Assumes nothing.
+use mathlib.Core.Path.{subst}
+use mathlib.Core.List.{List}
+use Prim.Native.Nat.{ℕ}
+use lib.ListN.{length}
+use Rattle.sparse_store_rules.specs.Runs.{Cut, past, Reached, start, again}
+use Rattle.sparse_store_rules.proofs.Restart.{restart}
+use Rattle.sparse_stream_rules.specs.Theorems.{PassCut, PassReached, ImageBytes, PassRestart, OnlyDue, EachStores, EachAnswers}
+use Rattle.sparse_stream_rules.specs.Theorems as passes
+use Rattle.sparse_stream_rules.proofs.Growth.{cut-always, as-whole}
+use Rattle.sparse_stream_rules.proofs.Passes.{all-due}
+use Rattle.sparse_stream_rules.proofs.EachCall.{each-call, each-answer}
+
+-- a run that is cut with passes in it is one that is cut without
+pass-cut : {ss : List (List ℕ)} {p q : List ℕ} → PassCut ss p q → ImageBytes ss → Cut ss p q
+pass-cut (passes.plain c) g = c
+pass-cut (passes.left {ss = ss} {p = p} cs t ks a) g = cut-always ss p cs t (g .0) ks a
+pass-cut (passes.past c) g = past (pass-cut c (g .1))
+pass-cut (passes.passed {ss = ss} {p = p} {q = q} cs ks a c) g =
+    past (subst (λ (r : List ℕ). Cut ss r q) (as-whole (length p) p cs (g .0) .contents ks a) (pass-cut c (g .1)))
+
+-- and so are any number of runs
+pass-reached : (ss : List (List ℕ)) (p q : List ℕ) → ImageBytes ss → PassReached ss p q → Reached ss p q
+pass-reached ss p q g passes.start = start
+pass-reached ss p q g (passes.again {q = r} m c) = again (pass-reached ss p r g m) (pass-cut c g)
+
+pub pass-restart : PassRestart
+pass-restart ss p q g m = restart ss p q (pass-reached ss p q g m)
+
+pub only-due : OnlyDue
+only-due len p cs small l = all-due len p cs small l
+
+pub each-stores : EachStores
+each-stores len room cs small = each-call len room cs small
+
+pub each-answers : EachAnswers
+each-answers len room qs small = each-answer len room qs small

@@ -1,0 +1,61 @@
+-- `sparse_stream_tests::arrival_number` meets its contract. Assumes nothing.
+use Rattle.sparse_stream_rules.proofs.StateLaws.{arrival-past, arrival-short, arrival-chunk, arrival-fell, arrival-more, arrival-sum, arrival-whole}
+use borrow.Author.Needs.{needs}
+use Rattle.sparse_stream_tests.proofs.arrival_number.Statement.{statement}
+use Rattle.sparse_stream_tests.proofs.arrival_number.Tie as tie
+
+slice-aggregate-read-header : tie.Need-slice-aggregate-read-header
+slice-aggregate-read-header c = search needs
+
+read-header-requires : tie.Need-read-header-requires
+read-header-requires c κs = search needs
+
+returns : tie.Need-returns
+returns c =
+    arrival-past (c .before .before .before .before .before .before .before .args .x) (c .before .before .before .before .read-header .result) (c .before .before .before .before .read-header .ensures) (c .before .before .if1 .taken) (c .if2 .taken)
+
+cast-if3 : tie.Need-cast-if3
+cast-if3 c = search needs
+
+returns-2 : tie.Need-returns-2
+returns-2 c =
+    arrival-short (c .before .before .before .before .before .before .before .before .before .before .args .x) (c .before .before .before .before .before .before .before .read-header .result) (c .before .before .before .before .before .before .before .read-header .ensures) (c .before .before .before .before .before .if1 .taken) (c .before .before .before .if2 .left) (c .if3 .taken)
+
+returns-3 : tie.Need-returns-3
+returns-3 c =
+    arrival-chunk (c .before .before .before .before .before .before .before .before .before .before .args .x) (c .before .before .before .before .before .before .before .read-header .result) (c .before .before .before .before .before .before .before .read-header .ensures) (c .before .before .before .before .before .if1 .taken) (c .before .before .before .if2 .left) (c .if3 .left)
+
+returns-4 : tie.Need-returns-4
+returns-4 c =
+    arrival-fell (c .before .before .before .before .before .before .before .before .args .x) (c .before .before .before .before .before .read-header .result) (c .before .before .before .before .before .read-header .ensures) (c .before .before .before .if1 .left) (c .if4 .taken)
+
+returns-5 : tie.Need-returns-5
+returns-5 c =
+    arrival-more (c .before .before .before .before .before .before .before .before .before .before .args .x) (c .before .before .before .before .before .before .before .read-header .result) (c .before .before .before .before .before .before .before .read-header .ensures) (c .before .before .before .before .before .if1 .left) (c .before .before .if4 .left) (c .if5 .taken)
+
+finish-requires : tie.Need-finish-requires
+finish-requires c κs = search needs
+
+returns-6 : tie.Need-returns-6
+returns-6 c =
+    arrival-sum (c .before .before .before .before .before .before .before .before .before .before .before .before .before .args .x) (c .before .before .before .before .before .before .before .before .before .before .read-header .result) (c .before .before .before .before .before .before .before .before .before .before .read-header .ensures) (c .before .before .before .before .before .before .before .before .if1 .left) (c .before .before .before .before .before .if4 .left) (c .before .before .before .if5 .left) (c .before .before .finish .result) (c .before .before .finish .ensures) (c .if6 .taken)
+
+returns-7 : tie.Need-returns-7
+returns-7 c =
+    arrival-whole (c .before .before .before .before .before .before .before .before .before .before .before .before .before .args .x) (c .before .before .before .before .before .before .before .before .before .before .read-header .result) (c .before .before .before .before .before .before .before .before .before .before .read-header .ensures) (c .before .before .before .before .before .before .before .before .if1 .left) (c .before .before .before .before .before .if4 .left) (c .before .before .before .if5 .left) (c .before .before .finish .result) (c .before .before .finish .ensures) (c .if6 .left)
+
+pub arrival-number-spec : {M : Type 1} → statement M
+arrival-number-spec =
+    tie.close
+    (tie.spec
+    slice-aggregate-read-header
+    read-header-requires
+    returns
+    cast-if3
+    returns-2
+    returns-3
+    returns-4
+    returns-5
+    finish-requires
+    returns-6
+    returns-7)

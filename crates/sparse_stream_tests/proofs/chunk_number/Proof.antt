@@ -1,0 +1,79 @@
+-- `sparse_stream_tests::chunk_number` meets its contract. Assumes nothing.
+use Rattle.sparse_stream_rules.proofs.StateLaws.{chunk-past, chunk-short, chunk-over, chunk-right, chunk-wrong}
+use borrow.Author.Needs.{needs}
+use Rattle.sparse_stream_tests.proofs.chunk_number.Statement.{statement}
+use Rattle.sparse_stream_tests.proofs.chunk_number.Tie as tie
+
+slice-aggregate-read-header : tie.Need-slice-aggregate-read-header
+slice-aggregate-read-header c = search needs
+
+read-header-requires : tie.Need-read-header-requires
+read-header-requires c κs = search needs
+
+blocks-now-requires : tie.Need-blocks-now-requires
+blocks-now-requires c κs = search needs
+
+size-now-requires : tie.Need-size-now-requires
+size-now-requires c κs = search needs
+
+kind-now-requires : tie.Need-kind-now-requires
+kind-now-requires c κs = search needs
+
+size-right-requires : tie.Need-size-right-requires
+size-right-requires c κs = search needs
+
+returns : tie.Need-returns
+returns c =
+    chunk-past (c .before .before .before .before .before .before .before .before .before .before .args .x) (c .before .before .before .before .before .before .before .read-header .result) (c .before .before .before .before .kind-now .result) (c .before .before .before .before .before .before .blocks-now .result) (c .before .before .before .before .before .size-now .result) (c .before .before .before .before .before .before .before .read-header .ensures) (c .before .before .before .before .kind-now .ensures) (c .before .before .before .before .before .before .blocks-now .ensures) (c .before .before .before .before .before .size-now .ensures) (c .before .before .before .size-right .result) (c .before .before .before .size-right .ensures) (c .before .before .if1 .taken) (c .if2 .taken)
+
+cast-if3 : tie.Need-cast-if3
+cast-if3 c = search needs
+
+returns-2 : tie.Need-returns-2
+returns-2 c =
+    chunk-short (c .before .before .before .before .before .before .before .before .before .before .before .before .args .x) (c .before .before .before .before .before .before .before .before .before .read-header .result) (c .before .before .before .before .before .before .kind-now .result) (c .before .before .before .before .before .before .before .before .blocks-now .result) (c .before .before .before .before .before .before .before .size-now .result) (c .before .before .before .before .before .before .before .before .before .read-header .ensures) (c .before .before .before .before .before .before .kind-now .ensures) (c .before .before .before .before .before .before .before .before .blocks-now .ensures) (c .before .before .before .before .before .before .before .size-now .ensures) (c .before .before .before .before .before .size-right .result) (c .before .before .before .before .before .size-right .ensures) (c .before .before .before .before .if1 .taken) (c .before .before .if2 .left) (c .if3 .taken)
+
+cast-if4 : tie.Need-cast-if4
+cast-if4 c = search needs
+
+cast-if4-2 : tie.Need-cast-if4-2
+cast-if4-2 c = search needs
+
+cast-if4-3 : tie.Need-cast-if4-3
+cast-if4-3 c = search needs
+
+add-if4 : tie.Need-add-if4
+add-if4 c = search needs
+
+returns-3 : tie.Need-returns-3
+returns-3 c =
+    chunk-over (c .before .before .before .before .before .before .before .before .before .before .before .before .before .before .before .args .x) (c .before .before .before .before .before .before .before .before .before .before .before .before .read-header .result) (c .before .before .before .before .before .before .before .before .before .kind-now .result) (c .before .before .before .before .before .before .before .before .before .before .before .blocks-now .result) (c .before .before .before .before .before .before .before .before .before .before .size-now .result) (c .before .before .before .before .before .before .before .before .before .before .before .before .read-header .ensures) (c .before .before .before .before .before .before .before .before .before .kind-now .ensures) (c .before .before .before .before .before .before .before .before .before .before .before .blocks-now .ensures) (c .before .before .before .before .before .before .before .before .before .before .size-now .ensures) (c .before .before .before .before .before .before .before .before .size-right .result) (c .before .before .before .before .before .before .before .before .size-right .ensures) (c .before .before .before .before .before .before .before .if1 .taken) (c .before .before .before .before .before .if2 .left) (c .before .before .before .if3 .left) (c .if4 .taken)
+
+returns-4 : tie.Need-returns-4
+returns-4 c =
+    chunk-right (c .before .before .before .before .before .before .before .before .before .before .before .before .before .before .before .args .x) (c .before .before .before .before .before .before .before .before .before .before .before .before .read-header .result) (c .before .before .before .before .before .before .before .before .before .kind-now .result) (c .before .before .before .before .before .before .before .before .before .before .before .blocks-now .result) (c .before .before .before .before .before .before .before .before .before .before .size-now .result) (c .before .before .before .before .before .before .before .before .before .before .before .before .read-header .ensures) (c .before .before .before .before .before .before .before .before .before .kind-now .ensures) (c .before .before .before .before .before .before .before .before .before .before .before .blocks-now .ensures) (c .before .before .before .before .before .before .before .before .before .before .size-now .ensures) (c .before .before .before .before .before .before .before .before .size-right .result) (c .before .before .before .before .before .before .before .before .size-right .ensures) (c .before .before .before .before .before .before .before .if1 .taken) (c .before .before .before .before .before .if2 .left) (c .before .before .before .if3 .left) (c .if4 .left)
+
+returns-5 : tie.Need-returns-5
+returns-5 c =
+    chunk-wrong (c .before .before .before .before .before .before .before .before .args .x) (c .before .before .before .before .before .read-header .result) (c .before .before .kind-now .result) (c .before .before .before .before .blocks-now .result) (c .before .before .before .size-now .result) (c .before .before .before .before .before .read-header .ensures) (c .before .before .kind-now .ensures) (c .before .before .before .before .blocks-now .ensures) (c .before .before .before .size-now .ensures) (c .before .size-right .result) (c .before .size-right .ensures) (c .if1 .left)
+
+pub chunk-number-spec : {M : Type 1} → statement M
+chunk-number-spec =
+    tie.close
+    (tie.spec
+    slice-aggregate-read-header
+    read-header-requires
+    blocks-now-requires
+    size-now-requires
+    kind-now-requires
+    size-right-requires
+    returns
+    cast-if3
+    returns-2
+    cast-if4
+    cast-if4-2
+    cast-if4-3
+    add-if4
+    returns-3
+    returns-4
+    returns-5)

@@ -1,0 +1,108 @@
+-- `sparse_stream_tests::header_number` meets its contract. Assumes nothing.
+use mathlib.Core.Path.{sym, _∙_}
+use Rattle.sparse_rules.proofs.Refusals.{sizes-is, block-is, bytes-are}
+use Rattle.sparse_stream_rules.proofs.StateLaws.{number-short, number-none, number-magic, number-six, number-major, number-twelve, number-sizes, number-sixteen, number-block, number-twenty, number-room, number-passes}
+use borrow.Author.Needs.{needs}
+use Rattle.sparse_stream_tests.proofs.header_number.Statement.{statement}
+use Rattle.sparse_stream_tests.proofs.header_number.Tie as tie
+
+returns : tie.Need-returns
+returns c =
+    number-short (c .before .args .file .now) (c .before .args .came) (c .before .args .len) (c .before .args .room) (c .if1 .taken)
+
+returns-2 : tie.Need-returns-2
+returns-2 c =
+    number-none (c .before .before .args .file .now) (c .before .before .args .came) (c .before .before .args .len) (c .before .before .args .room) (c .before .if1 .left) (c .if2 .taken)
+
+read32-requires : tie.Need-read32-requires
+read32-requires c κs = search needs
+
+returns-3 : tie.Need-returns-3
+returns-3 c =
+    number-magic (c .before .before .before .before .before .args .file .now) (c .before .before .before .before .before .args .came) (c .before .before .before .before .before .args .len) (c .before .before .before .before .before .args .room) (c .before .before .before .before .if1 .left) (c .before .before .before .if2 .left) (λ e. c .if3 .taken (c .before .read32 .ensures ∙ e))
+
+returns-4 : tie.Need-returns-4
+returns-4 c =
+    number-six (c .before .before .before .before .before .before .args .file .now) (c .before .before .before .before .before .before .args .came) (c .before .before .before .before .before .before .args .len) (c .before .before .before .before .before .before .args .room) (c .before .before .before .before .before .if1 .left) (c .before .before .before .before .if2 .left) (sym (c .before .before .read32 .ensures) ∙ c .before .if3 .left) (c .if4 .taken)
+
+read16-requires : tie.Need-read16-requires
+read16-requires c κs = search needs
+
+returns-5 : tie.Need-returns-5
+returns-5 c =
+    number-major (c .before .before .before .before .before .before .before .before .before .args .file .now) (c .before .before .before .before .before .before .before .before .before .args .came) (c .before .before .before .before .before .before .before .before .before .args .len) (c .before .before .before .before .before .before .before .before .before .args .room) (c .before .before .before .before .before .before .before .before .if1 .left) (c .before .before .before .before .before .before .before .if2 .left) (sym (c .before .before .before .before .before .read32 .ensures) ∙ c .before .before .before .before .if3 .left) (c .before .before .before .if4 .left) (λ e. c .if5 .taken (c .before .read16 .ensures ∙ e))
+
+returns-6 : tie.Need-returns-6
+returns-6 c =
+    number-twelve (c .before .before .before .before .before .before .before .before .before .before .args .file .now) (c .before .before .before .before .before .before .before .before .before .before .args .came) (c .before .before .before .before .before .before .before .before .before .before .args .len) (c .before .before .before .before .before .before .before .before .before .before .args .room) (c .before .before .before .before .before .before .before .before .before .if1 .left) (c .before .before .before .before .before .before .before .before .if2 .left) (sym (c .before .before .before .before .before .before .read32 .ensures) ∙ c .before .before .before .before .before .if3 .left) (c .before .before .before .before .if4 .left) (sym (c .before .before .read16 .ensures) ∙ c .before .if5 .left) (c .if6 .taken)
+
+read-header-requires : tie.Need-read-header-requires
+read-header-requires c κs = search needs
+
+sizes-right-requires : tie.Need-sizes-right-requires
+sizes-right-requires c κs = search needs
+
+returns-7 : tie.Need-returns-7
+returns-7 c =
+    number-sixteen (c .before .before .before .before .before .before .before .before .before .before .before .before .before .before .before .args .file .now) (c .before .before .before .before .before .before .before .before .before .before .before .before .before .before .before .args .came) (c .before .before .before .before .before .before .before .before .before .before .before .before .before .before .before .args .len) (c .before .before .before .before .before .before .before .before .before .before .before .before .before .before .before .args .room) (c .before .before .before .before .before .before .before .before .before .before .before .before .before .before .if1 .left) (c .before .before .before .before .before .before .before .before .before .before .before .before .before .if2 .left) (sym (c .before .before .before .before .before .before .before .before .before .before .before .read32 .ensures) ∙ c .before .before .before .before .before .before .before .before .before .before .if3 .left) (c .before .before .before .before .before .before .before .before .before .if4 .left) (sym (c .before .before .before .before .before .before .before .read16 .ensures) ∙ c .before .before .before .before .before .before .if5 .left) (c .before .before .before .before .before .if6 .left)
+    (sizes-is (c .before .before .before .before .before .before .before .before .before .before .before .before .before .before .before .args .file .now) (c .before .before .before .before .before .before .before .before .before .before .before .before .before .before .before .args .len) (c .before .before .before .read-header .result) (c .before .before .before .read-header .ensures) (c .before .before .sizes-right .ensures) (c .before .if7 .taken)) (c .if8 .taken)
+
+block-right-requires : tie.Need-block-right-requires
+block-right-requires c κs = search needs
+
+returns-8 : tie.Need-returns-8
+returns-8 c =
+    number-twenty (c .before .before .before .before .before .before .before .before .before .before .before .before .before .before .before .before .before .before .args .file .now) (c .before .before .before .before .before .before .before .before .before .before .before .before .before .before .before .before .before .before .args .came) (c .before .before .before .before .before .before .before .before .before .before .before .before .before .before .before .before .before .before .args .len) (c .before .before .before .before .before .before .before .before .before .before .before .before .before .before .before .before .before .before .args .room) (c .before .before .before .before .before .before .before .before .before .before .before .before .before .before .before .before .before .if1 .left) (c .before .before .before .before .before .before .before .before .before .before .before .before .before .before .before .before .if2 .left) (sym (c .before .before .before .before .before .before .before .before .before .before .before .before .before .before .read32 .ensures) ∙ c .before .before .before .before .before .before .before .before .before .before .before .before .before .if3 .left) (c .before .before .before .before .before .before .before .before .before .before .before .before .if4 .left) (sym (c .before .before .before .before .before .before .before .before .before .before .read16 .ensures) ∙ c .before .before .before .before .before .before .before .before .before .if5 .left) (c .before .before .before .before .before .before .before .before .if6 .left)
+    (sizes-is (c .before .before .before .before .before .before .before .before .before .before .before .before .before .before .before .before .before .before .args .file .now) (c .before .before .before .before .before .before .before .before .before .before .before .before .before .before .before .before .before .before .args .len) (c .before .before .before .before .before .before .read-header .result) (c .before .before .before .before .before .before .read-header .ensures) (c .before .before .before .before .before .sizes-right .ensures) (c .before .before .before .before .if7 .taken)) (c .before .before .before .if8 .left)
+    (block-is (c .before .before .before .before .before .before .before .before .before .before .before .before .before .before .before .before .before .before .args .file .now) (c .before .before .before .before .before .before .read-header .result) (c .before .before .before .before .before .before .read-header .ensures) (c .before .before .block-right .ensures) (c .before .if9 .taken)) (c .if10 .taken)
+
+bytes-of-requires : tie.Need-bytes-of-requires
+bytes-of-requires c κs = search needs
+
+returns-9 : tie.Need-returns-9
+returns-9 c =
+    number-room (c .before .before .before .before .before .before .before .before .before .before .before .before .before .before .before .before .before .before .before .before .args .file .now) (c .before .before .before .before .before .before .before .before .before .before .before .before .before .before .before .before .before .before .before .before .args .came) (c .before .before .before .before .before .before .before .before .before .before .before .before .before .before .before .before .before .before .before .before .args .len) (c .before .before .before .before .before .before .before .before .before .before .before .before .before .before .before .before .before .before .before .before .args .room) (c .before .before .before .before .before .before .before .before .before .before .before .before .before .before .before .before .before .before .before .if1 .left) (c .before .before .before .before .before .before .before .before .before .before .before .before .before .before .before .before .before .before .if2 .left) (sym (c .before .before .before .before .before .before .before .before .before .before .before .before .before .before .before .before .read32 .ensures) ∙ c .before .before .before .before .before .before .before .before .before .before .before .before .before .before .before .if3 .left) (c .before .before .before .before .before .before .before .before .before .before .before .before .before .before .if4 .left) (sym (c .before .before .before .before .before .before .before .before .before .before .before .before .read16 .ensures) ∙ c .before .before .before .before .before .before .before .before .before .before .before .if5 .left) (c .before .before .before .before .before .before .before .before .before .before .if6 .left)
+    (sizes-is (c .before .before .before .before .before .before .before .before .before .before .before .before .before .before .before .before .before .before .before .before .args .file .now) (c .before .before .before .before .before .before .before .before .before .before .before .before .before .before .before .before .before .before .before .before .args .len) (c .before .before .before .before .before .before .before .before .read-header .result) (c .before .before .before .before .before .before .before .before .read-header .ensures) (c .before .before .before .before .before .before .before .sizes-right .ensures) (c .before .before .before .before .before .before .if7 .taken)) (c .before .before .before .before .before .if8 .left)
+    (block-is (c .before .before .before .before .before .before .before .before .before .before .before .before .before .before .before .before .before .before .before .before .args .file .now) (c .before .before .before .before .before .before .before .before .read-header .result) (c .before .before .before .before .before .before .before .before .read-header .ensures) (c .before .before .before .before .block-right .ensures) (c .before .before .before .if9 .taken)) (c .before .before .if10 .left)
+    (rw (bytes-are (c .before .before .before .before .before .before .before .before .before .before .before .before .before .before .before .before .before .before .before .before .args .file .now) (c .before .before .before .before .before .before .before .before .read-header .result) (c .before .before .before .before .before .before .before .before .read-header .ensures) (c .before .bytes-of .ensures)) at (c .if11 .taken))
+
+returns-10 : tie.Need-returns-10
+returns-10 c =
+    number-passes (c .before .before .before .before .before .before .before .before .before .before .before .before .before .before .before .before .before .before .before .before .args .file .now) (c .before .before .before .before .before .before .before .before .before .before .before .before .before .before .before .before .before .before .before .before .args .came) (c .before .before .before .before .before .before .before .before .before .before .before .before .before .before .before .before .before .before .before .before .args .len) (c .before .before .before .before .before .before .before .before .before .before .before .before .before .before .before .before .before .before .before .before .args .room) (c .before .before .before .before .before .before .before .before .before .before .before .before .before .before .before .before .before .before .before .if1 .left) (c .before .before .before .before .before .before .before .before .before .before .before .before .before .before .before .before .before .before .if2 .left) (sym (c .before .before .before .before .before .before .before .before .before .before .before .before .before .before .before .before .read32 .ensures) ∙ c .before .before .before .before .before .before .before .before .before .before .before .before .before .before .before .if3 .left) (c .before .before .before .before .before .before .before .before .before .before .before .before .before .before .if4 .left) (sym (c .before .before .before .before .before .before .before .before .before .before .before .before .read16 .ensures) ∙ c .before .before .before .before .before .before .before .before .before .before .before .if5 .left) (c .before .before .before .before .before .before .before .before .before .before .if6 .left)
+    (sizes-is (c .before .before .before .before .before .before .before .before .before .before .before .before .before .before .before .before .before .before .before .before .args .file .now) (c .before .before .before .before .before .before .before .before .before .before .before .before .before .before .before .before .before .before .before .before .args .len) (c .before .before .before .before .before .before .before .before .read-header .result) (c .before .before .before .before .before .before .before .before .read-header .ensures) (c .before .before .before .before .before .before .before .sizes-right .ensures) (c .before .before .before .before .before .before .if7 .taken)) (c .before .before .before .before .before .if8 .left)
+    (block-is (c .before .before .before .before .before .before .before .before .before .before .before .before .before .before .before .before .before .before .before .before .args .file .now) (c .before .before .before .before .before .before .before .before .read-header .result) (c .before .before .before .before .before .before .before .before .read-header .ensures) (c .before .before .before .before .block-right .ensures) (c .before .before .before .if9 .taken)) (c .before .before .if10 .left)
+    (rw (bytes-are (c .before .before .before .before .before .before .before .before .before .before .before .before .before .before .before .before .before .before .before .before .args .file .now) (c .before .before .before .before .before .before .before .before .read-header .result) (c .before .before .before .before .before .before .before .before .read-header .ensures) (c .before .bytes-of .ensures)) at (c .if11 .left))
+
+returns-11 : tie.Need-returns-11
+returns-11 c =
+    number-block (c .before .before .before .before .before .before .before .before .before .before .before .before .before .before .before .before .before .args .file .now) (c .before .before .before .before .before .before .before .before .before .before .before .before .before .before .before .before .before .args .came) (c .before .before .before .before .before .before .before .before .before .before .before .before .before .before .before .before .before .args .len) (c .before .before .before .before .before .before .before .before .before .before .before .before .before .before .before .before .before .args .room) (c .before .before .before .before .before .before .before .before .before .before .before .before .before .before .before .before .if1 .left) (c .before .before .before .before .before .before .before .before .before .before .before .before .before .before .before .if2 .left) (sym (c .before .before .before .before .before .before .before .before .before .before .before .before .before .read32 .ensures) ∙ c .before .before .before .before .before .before .before .before .before .before .before .before .if3 .left) (c .before .before .before .before .before .before .before .before .before .before .before .if4 .left) (sym (c .before .before .before .before .before .before .before .before .before .read16 .ensures) ∙ c .before .before .before .before .before .before .before .before .if5 .left) (c .before .before .before .before .before .before .before .if6 .left)
+    (sizes-is (c .before .before .before .before .before .before .before .before .before .before .before .before .before .before .before .before .before .args .file .now) (c .before .before .before .before .before .before .before .before .before .before .before .before .before .before .before .before .before .args .len) (c .before .before .before .before .before .read-header .result) (c .before .before .before .before .before .read-header .ensures) (c .before .before .before .before .sizes-right .ensures) (c .before .before .before .if7 .taken)) (c .before .before .if8 .left)
+    (block-is (c .before .before .before .before .before .before .before .before .before .before .before .before .before .before .before .before .before .args .file .now) (c .before .before .before .before .before .read-header .result) (c .before .before .before .before .before .read-header .ensures) (c .before .block-right .ensures) (c .if9 .left))
+
+returns-12 : tie.Need-returns-12
+returns-12 c =
+    number-sizes (c .before .before .before .before .before .before .before .before .before .before .before .before .before .before .args .file .now) (c .before .before .before .before .before .before .before .before .before .before .before .before .before .before .args .came) (c .before .before .before .before .before .before .before .before .before .before .before .before .before .before .args .len) (c .before .before .before .before .before .before .before .before .before .before .before .before .before .before .args .room) (c .before .before .before .before .before .before .before .before .before .before .before .before .before .if1 .left) (c .before .before .before .before .before .before .before .before .before .before .before .before .if2 .left) (sym (c .before .before .before .before .before .before .before .before .before .before .read32 .ensures) ∙ c .before .before .before .before .before .before .before .before .before .if3 .left) (c .before .before .before .before .before .before .before .before .if4 .left) (sym (c .before .before .before .before .before .before .read16 .ensures) ∙ c .before .before .before .before .before .if5 .left) (c .before .before .before .before .if6 .left)
+    (sizes-is (c .before .before .before .before .before .before .before .before .before .before .before .before .before .before .args .file .now) (c .before .before .before .before .before .before .before .before .before .before .before .before .before .before .args .len) (c .before .before .read-header .result) (c .before .before .read-header .ensures) (c .before .sizes-right .ensures) (c .if7 .left))
+
+pub header-number-spec : {M : Type 1} → statement M
+header-number-spec =
+    tie.close
+    (tie.spec
+    returns
+    returns-2
+    read32-requires
+    returns-3
+    returns-4
+    read16-requires
+    returns-5
+    returns-6
+    read-header-requires
+    sizes-right-requires
+    returns-7
+    block-right-requires
+    returns-8
+    bytes-of-requires
+    returns-9
+    returns-10
+    returns-11
+    returns-12)
