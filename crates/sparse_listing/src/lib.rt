@@ -1,12 +1,9 @@
-// The lister's text: what it prints for an input, put into a lent buffer.
+// The lister's answer: the text of an input in a lent buffer, and how it stands there.
 ghost use mathlib.Core.Path.{_≡_};
 ghost use lib.ListN.{length};
 ghost use Rattle.sparse_list_rules.specs.Listing.{heldOf, held, output};
-
-mod listing;
-
-use listing::put_listing;
 use sparse_list_rules::Listed;
+use sparse_text::put_listing;
 
 // Puts the text of an input at the start of a buffer, as much of it as has room.
 pub fn list(input: &[u8], out: &mut [u8]) -> Listed

@@ -114,6 +114,6 @@ pub fn write(flat: &[u8], block_size: u32, out: &mut [u8]) -> Outcome
         return refused(12);
     }
     let state = put_chunks(out, flat, block_size, n);
-    sparse_put::put_header(out, block_size, n as u32, m.chunks, crc32::finish(state));
+    sparse_put_header::put_header(out, block_size, n as u32, m.chunks, crc32::finish(state));
     Outcome::Written(m.bytes)
 }

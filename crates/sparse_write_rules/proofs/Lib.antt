@@ -7,3 +7,4 @@ pub mod FlatImage
 pub mod ImageBytes
 pub mod Encoded
 pub mod Theorems
+pub mod Putting

@@ -6,7 +6,7 @@ use native.Mathlib.Omega.{arith}
 use Rattle.sparse_write_rules.specs.Kinds.{fill}
 use Rattle.sparse_scan.specs.Numbered.{kindNumbered}
 use Rattle.sparse_scan.proofs.Numbered.{number-fill}
-use Rattle.sparse_put.proofs.Putting.{fill-fits}
+use Rattle.sparse_write_rules.proofs.Putting.{fill-fits}
 use borrow.Author.Needs.{needs}
 use Rattle.sparse_write.proofs.put.put_chunk.Statement.{statement}
 use Rattle.sparse_write.proofs.put.put_chunk.Tie as tie

@@ -1,6 +1,6 @@
 -- `sparse_write::put::put_raw` meets its contract: a header, the data after it, and the state over the data as they stand there.
 -- Assumes nothing.
-use Rattle.sparse_put.proofs.Putting.{raw-put}
+use Rattle.sparse_write_rules.proofs.Putting.{raw-put}
 use borrow.Author.Needs.{needs}
 use Rattle.sparse_write.proofs.put.put_raw.Statement.{statement}
 use Rattle.sparse_write.proofs.put.put_raw.Tie as tie

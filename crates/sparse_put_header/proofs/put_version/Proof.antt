@@ -1,9 +1,9 @@
--- `sparse_put::put_version` meets its contract: five fields, one after the other.
+-- `sparse_put_header::put_version` meets its contract: five fields, one after the other.
 -- Assumes nothing.
-use Rattle.sparse_put.proofs.Putting.{version-put}
+use Rattle.sparse_write_rules.proofs.Putting.{version-put}
 use borrow.Author.Needs.{needs}
-use Rattle.sparse_put.proofs.put_version.Statement.{statement}
-use Rattle.sparse_put.proofs.put_version.Tie as tie
+use Rattle.sparse_put_header.proofs.put_version.Statement.{statement}
+use Rattle.sparse_put_header.proofs.put_version.Tie as tie
 
 write32-requires : tie.Need-write32-requires
 write32-requires c κs = search needs

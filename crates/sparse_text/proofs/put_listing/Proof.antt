@@ -1,12 +1,12 @@
--- `sparse_listing::listing::put_listing` meets its contract.
+-- `sparse_text::put_listing` meets its contract.
 -- Assumes nothing.
 use mathlib.Core.Path.{sym, ap, _∙_}
 use borrow.Author.Needs.{needs}
 use Rattle.sparse_rules.specs.Answers.{answerOf}
 use Rattle.sparse_list_rules.specs.Lines.{tooLong}
 use Rattle.sparse_list_rules.proofs.Listings.{listing-long, listing-refused, listing-accepted}
-use Rattle.sparse_listing.proofs.listing.put_listing.Statement.{statement}
-use Rattle.sparse_listing.proofs.listing.put_listing.Tie as tie
+use Rattle.sparse_text.proofs.put_listing.Statement.{statement}
+use Rattle.sparse_text.proofs.put_listing.Tie as tie
 
 slice-aggregate-put : tie.Need-slice-aggregate-put
 slice-aggregate-put c = search needs

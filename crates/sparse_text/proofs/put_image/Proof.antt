@@ -1,12 +1,12 @@
--- `sparse_listing::listing::put_image` meets its contract. The loop's invariant: the lines of the chunks that are left and the last line, put from here on, make the whole.
+-- `sparse_text::put_image` meets its contract. The loop's invariant: the lines of the chunks that are left and the last line, put from here on, make the whole.
 -- The measure is the number of chunks left. Assumes nothing.
 use mathlib.Core.Path.{sym, ap, _∙_}
 use native.Mathlib.Omega.{arith}
 use borrow.Author.Needs.{needs}
 use Rattle.sparse_rules.specs.Answers.{readingOf}
-use Rattle.sparse_listing.proofs.Chunks.{Going, going-start, going-step, going-refused, going-done}
-use Rattle.sparse_listing.proofs.listing.put_image.Statement.{statement}
-use Rattle.sparse_listing.proofs.listing.put_image.Tie as tie
+use Rattle.sparse_text.proofs.Chunks.{Going, going-start, going-step, going-refused, going-done}
+use Rattle.sparse_text.proofs.put_image.Statement.{statement}
+use Rattle.sparse_text.proofs.put_image.Tie as tie
 
 abbrev Inv-loop : tie.InvT-loop
 Inv-loop out₀ input written skipped header next₀ cursor₀ left₀ out next cursor left = Going input header written skipped out₀ next₀ out cursor left next

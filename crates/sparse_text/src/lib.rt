@@ -1,4 +1,4 @@
-// The text of an input, line after line.
+// The text that the lister prints for an input, line after line.
 ghost use mathlib.Core.Path.{_≡_};
 ghost use mathlib.Core.List.{List};
 ghost use lib.ListN.{length};
@@ -35,7 +35,7 @@ fn put_image(out: &mut [u8], input: &[u8], written: u32, skipped: u32) -> usize
 }
 
 // The text of an input, and the place after it.
-pub(crate) fn put_listing(out: &mut [u8], input: &[u8]) -> usize
+pub fn put_listing(out: &mut [u8], input: &[u8]) -> usize
     ensures { λ r. ⌜ Put (now (out .entry)) 0 (listing (now (input .entry))) (now (out .exit)) r ⌝ }
 {
     if 65536 < input.len() {

@@ -1,10 +1,10 @@
--- `sparse_put::put_header` meets its contract: its beginning, then four fields, one after the other.
+-- `sparse_put_header::put_header` meets its contract: its beginning, then four fields, one after the other.
 -- Assumes nothing.
 use mathlib.Core.Path.{sym}
-use Rattle.sparse_put.proofs.Putting.{header-put, header-none}
+use Rattle.sparse_write_rules.proofs.Putting.{header-put, header-none}
 use borrow.Author.Needs.{needs}
-use Rattle.sparse_put.proofs.put_header.Statement.{statement}
-use Rattle.sparse_put.proofs.put_header.Tie as tie
+use Rattle.sparse_put_header.proofs.put_header.Statement.{statement}
+use Rattle.sparse_put_header.proofs.put_header.Tie as tie
 
 returns : tie.Need-returns
 returns c =
