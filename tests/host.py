@@ -793,6 +793,8 @@ def main() -> int:
     if len(sys.argv) < 2:
         print(__doc__, file=sys.stderr)
         return 2
+    for number in (signal.SIGINT, signal.SIGTERM, signal.SIGHUP):
+        signal.signal(number, signal.SIG_DFL)  # the tools inherit what a shell ignores for its background jobs
     all_agree = True
     with tempfile.TemporaryDirectory() as folder:
         preload = built_preload(folder)
