@@ -61,21 +61,27 @@ build/libtarpaulark.so: $(LIBRARY)
 	mkdir -p build
 	$(CC) -shared -o $@ -Wl,--whole-archive $(LIBRARY) -Wl,--no-whole-archive
 
+build/stack: tests/stack.c include/tarpaulark.h $(LIBRARY)
+	mkdir -p build
+	$(CC) $(STRICT) $(CFLAGS) -Iinclude -o $@ tests/stack.c $(LIBRARY)
+
 # The update of the README: stored with power cut and a torn block, then started over.
 demo: build/tarpaulark
 	$(PYTHON) host/demo.py build/tarpaulark
 
-# The tool on examples, bad usage and faults; each exported function against the reference, for a minute.
-test: build/tarpaulark build/tarpaulark-checked build/libtarpaulark.so
+# The tool on examples, bad usage and faults; the stack that each exported function takes; each against the
+# reference, for a minute.
+test: build/tarpaulark build/tarpaulark-checked build/libtarpaulark.so build/stack
 	$(PYTHON) tests/host.py build/tarpaulark build/tarpaulark-checked
 	bash tests/install.sh
+	build/stack
 	$(PYTHON) tests/differential.py build/libtarpaulark.so
 
 # Images and boot images that Debian's tools make or read, where they are installed.
 peers: build/tarpaulark
 	bash tests/peers.sh
 
-# A table of ratios to a plain copy, to zlib's checksum and to Debian's tools.
+# Tables of ratios: to a plain copy, to zlib's checksum and to Debian's tools; of the passes to the whole form.
 bench: $(LIBRARY)
 	bash bench/run
 

@@ -1,98 +1,24 @@
 /*
  * bench MIB FOLDER: times judge, store and write on data of MIB MiB against memcpy,
- * zlib's crc32 (with -DWITH_ZLIB), simg2img and img2simg, and prints a table of ratios.
- * The tools run on files in FOLDER.
+ * zlib's crc32 (with -DWITH_ZLIB), simg2img and img2simg, and prints a table of ratios;
+ * then a table of the passes against judge and store. The tools run on files in FOLDER.
  */
 #define _GNU_SOURCE
-#include "tarpaulark.h"
+#include "passes.h"
+#include "work.h"
 
-#include <limits.h>
 #include <spawn.h>
 #include <stdio.h>
 #include <stdlib.h>
 #include <string.h>
 #include <sys/resource.h>
 #include <sys/wait.h>
-#include <time.h>
 #include <unistd.h>
 #ifdef WITH_ZLIB
 #include <zlib.h>
 #endif
 
-#define RUNS 3
-#define ABSENT (-1.0)
-
 extern char **environ;
-
-struct work {
-    uint8_t *flat, *image, *partition;
-    size_t flat_len, image_len, image_room;
-    uint32_t block;
-    char flat_path[PATH_MAX], image_path[PATH_MAX], out_path[PATH_MAX];
-};
-
-/* Processor seconds of one run, or ABSENT. */
-typedef double job(struct work *work);
-
-static void expect(int holds, const char *what)
-{
-    if (holds)
-        return;
-    fprintf(stderr, "bench: %s\n", what);
-    exit(1);
-}
-
-/* Processor time, which other work on the machine disturbs least. */
-static double now(void)
-{
-    struct timespec time;
-
-    clock_gettime(CLOCK_PROCESS_CPUTIME_ID, &time);
-    return (double)time.tv_sec + (double)time.tv_nsec / 1e9;
-}
-
-static double best(job *run, struct work *work)
-{
-    double least = run(work);
-
-    for (int i = 1; i < RUNS && least >= 0; i++) {
-        double seconds = run(work);
-
-        if (seconds < least)
-            least = seconds;
-    }
-    return least;
-}
-
-static double judge(struct work *work)
-{
-    uint64_t answer[TARPAULARK_JUDGE_ANSWER];
-    double start = now();
-
-    expect(tarpaulark_judge(work->image, work->image_len, work->flat_len, answer) == 0, "judge refused");
-    return now() - start;
-}
-
-static double store(struct work *work)
-{
-    uint64_t answer[TARPAULARK_STORE_ANSWER];
-    double start = now();
-
-    expect(tarpaulark_store(work->image, work->image_len, work->partition, work->flat_len, answer) == 0,
-           "store refused");
-    return now() - start;
-}
-
-static double write_image(struct work *work)
-{
-    uint64_t answer[TARPAULARK_WRITE_ANSWER];
-    double start = now();
-
-    expect(tarpaulark_write(work->flat, work->flat_len, work->block, work->image, work->image_room, answer) == 0,
-           "write refused");
-    work->image_len = answer[1];
-    return now() - start;
-}
 
 static double copy(struct work *work)
 {
@@ -162,68 +88,6 @@ static void put_file(const char *path, const uint8_t *bytes, size_t length)
            "a file could not be written");
 }
 
-static void make_noise(uint8_t *at, size_t length)
-{
-    static uint64_t state = 88172645463325252u;
-
-    for (size_t i = 0; i + 8 <= length; i += 8) {
-        state ^= state << 13;
-        state ^= state >> 7;
-        state ^= state << 17;
-        memcpy(at + i, &state, 8);
-    }
-}
-
-/* What the flat bytes hold: `noisy` of each `period` blocks random, the others `rest`. */
-struct data {
-    const char *name;
-    uint32_t block, noisy, period;
-    uint8_t rest;
-    int skips;
-};
-
-static const struct data kinds[] = {
-    {"random", 4096, 1, 1, 0, 0},
-    {"mostly fill", 4096, 16, 256, 0xA5, 0},
-    {"mostly don't care", 4096, 16, 256, 0, 1},
-    {"small chunks", 256, 1, 2, 0xA5, 0},
-};
-
-/* Turns each fill chunk of zeros into don't care; the checksum stays. */
-static void skip_zeros(struct work *work)
-{
-    static const uint8_t zeros[] = {0xC2, 0xCA};
-    uint8_t *image = work->image;
-    size_t from = 28, to = 28;
-
-    while (from < work->image_len) {
-        uint32_t total;
-        int zero = memcmp(image + from, zeros, 2) == 0 && image[from + 12] == 0;
-
-        memcpy(&total, image + from + 8, 4);
-        memmove(image + to, image + from, total);
-        from += total;
-        if (zero) {
-            image[to] = 0xC3;
-            image[to + 8] = 12;
-        }
-        to += zero ? 12 : total;
-    }
-    work->image_len = to;
-}
-
-static void make_flat(const struct data *data, struct work *work, size_t mib)
-{
-    size_t step = (size_t)data->block * data->period, noise = (size_t)data->block * data->noisy;
-
-    /* Small chunks are one block each, 1,000,000 of them for 256 MiB. */
-    work->flat_len = data->block == 256 ? mib * 1000000 / step * step : mib << 20;
-    work->block = data->block;
-    memset(work->flat, data->rest, work->flat_len);
-    for (size_t at = 0; at < work->flat_len; at += step)
-        make_noise(work->flat + at, noise);
-}
-
 struct times {
     double judge, store, write;
 };
@@ -232,23 +96,12 @@ static struct times time_ours(const struct data *data, struct work *work, size_t
 {
     struct times times;
 
-    make_flat(data, work, mib);
-    memset(work->partition, 0, work->flat_len);
-    times.write = best(write_image, work);
-    if (data->skips)
-        skip_zeros(work);
+    times.write = make_image(data, work, mib);
+    clear_partition(work);
     times.judge = best(judge, work);
     times.store = best(store, work);
-    expect(memcmp(work->flat, work->partition, work->flat_len) == 0, "the stored bytes are wrong");
+    expect_stored(work);
     return times;
-}
-
-static void put_ratio(double ours, double theirs)
-{
-    if (theirs > 0)
-        printf(" %9.2f", ours / theirs);
-    else
-        printf(" %9s", "-");
 }
 
 struct yardsticks {
@@ -307,7 +160,9 @@ int main(int count, char **words)
     work.image = touched(work.image_room);
     printf("%-17s  %-5s %9s %7s %9s %9s %9s %9s\n", "data", "job", "seconds", "GB/s", "/ memcpy", "/ crc32",
            "/ tool", "growth");
-    for (size_t i = 0; i < sizeof kinds / sizeof kinds[0]; i++)
+    for (size_t i = 0; i < KINDS; i++)
         put_rows(&kinds[i], &work, mib);
+    putchar('\n');
+    put_passes(&work, mib);
     return 0;
 }

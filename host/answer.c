@@ -1,6 +1,7 @@
 #include "answer.h"
 
 #include "characters.h"
+#include "progress.h"
 #include "refusals.h"
 
 #include <inttypes.h>
@@ -245,21 +246,25 @@ enum status finish_text(void)
     return printed(DONE);
 }
 
+void advise(const char *name, const char *words)
+{
+    if (answer.json)
+        say_text(name, words);
+    else
+        fprintf(stderr, "%s\n", words);
+}
+
 enum status refuse(uint32_t number, uint64_t place, const char *more)
 {
-    const char *meaning = refusal_meaning(number);
-
     if (answer.json) {
         say_number("number", number);
         say_number("place", place);
-        say_text("meaning", meaning);
-        if (more != NULL)
-            say_text("more", more);
-        return REFUSED;
+    } else {
+        fprintf(stderr, "refused %" PRIu32 " at %" PRIu64 "\n", number, place);
     }
-    fprintf(stderr, "refused %" PRIu32 " at %" PRIu64 "\n%s\n", number, place, meaning);
+    advise("meaning", refusal_meaning(number));
     if (more != NULL)
-        fprintf(stderr, "%s\n", more);
+        advise("more", more);
     return REFUSED;
 }
 
@@ -277,6 +282,7 @@ static void put_name(const char *name)
 
 static void explain(const char *path, const char *what, int error)
 {
+    end_progress();
     if (answer.json) {
         while (answer.depth > 0)
             close_bracket();

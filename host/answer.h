@@ -51,6 +51,9 @@ enum status finish_text(void);
 /* Says a refusal, its place and what it means; more words may follow the meaning. */
 enum status refuse(uint32_t number, uint64_t place, const char *more);
 
+/* More words to a refusal, a line of their own on standard error. */
+void advise(const char *name, const char *words);
+
 /* Say what went wrong with a file, or with the words where `path` is null, and end the program.
    `error` is an errno, or 0. */
 _Noreturn void misused(const char *path, const char *what);

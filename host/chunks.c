@@ -36,10 +36,8 @@ bool next_chunk(struct walk *walk, struct chunk *chunk)
     return true;
 }
 
-uint32_t fill_word(const struct mapped *image, const struct chunk *chunk)
+uint32_t word_at(const uint8_t *at)
 {
-    const uint8_t *at = image->at + chunk->data;
-
     return at[0] | (uint32_t)at[1] << 8 | (uint32_t)at[2] << 16 | (uint32_t)at[3] << 24;
 }
 
@@ -48,15 +46,19 @@ void expect_read(const struct mapped *image)
     expect_unchanged(image, changed);
 }
 
+const char *about_refusal(uint32_t number, uint64_t checksum)
+{
+    if (number != TARPAULARK_BAD_CHECKSUM || checksum != 0)
+        return NULL;
+    return "the header states 0, and a checksum of 0 is taken as stated: a tool that works out none (img2simg)"
+           " makes such an image";
+}
+
 enum status refuse_image(const struct mapped *image, uint32_t number, uint64_t place)
 {
     uint64_t header[TARPAULARK_HEADER_ANSWER];
-    const char *more = NULL;
 
-    if (number == TARPAULARK_BAD_CHECKSUM
-        && tarpaulark_header(image->at, image->length, UINT64_MAX, header) == 0
-        && header[TARPAULARK_HEADER_CHECKSUM] == 0)
-        more = "the header states 0, and a checksum of 0 is taken as stated: a tool that works out none"
-               " (img2simg) makes such an image";
-    return refuse(number, place, more);
+    if (tarpaulark_header(image->at, image->length, UINT64_MAX, header) != 0)
+        return refuse(number, place, NULL);
+    return refuse(number, place, about_refusal(number, header[TARPAULARK_HEADER_CHECKSUM]));
 }

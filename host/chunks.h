@@ -35,11 +35,14 @@ uint32_t begin_walk(
 /* The next chunk; false after the last. */
 bool next_chunk(struct walk *walk, struct chunk *chunk);
 
-/* The word that a fill chunk repeats, low byte first. */
-uint32_t fill_word(const struct mapped *image, const struct chunk *chunk);
+/* The number in four bytes, low byte first, as the word of a fill chunk where its data begin. */
+uint32_t word_at(const uint8_t *at);
 
 /* Fails where the image was changed while it was read. */
 void expect_read(const struct mapped *image);
+
+/* What a crew should know about a refusal, where the header states such a checksum; null where that is nothing. */
+const char *about_refusal(uint32_t number, uint64_t checksum);
 
 /* Says the refusal of an image, with what a crew should know about it. */
 enum status refuse_image(const struct mapped *image, uint32_t number, uint64_t place);

@@ -14,6 +14,8 @@ struct request {
     bool dry_run;
     bool has_limit;
     uint64_t limit;
+    bool has_length;
+    uint64_t length; /* of an image that comes by standard input */
     const char *svg; /* null where there is none */
 };
 

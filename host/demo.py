@@ -1,21 +1,27 @@
-"""An update that skips the distance record: refused when damaged, cut twice, started over.
+"""An update that skips the distance record: refused when damaged, cut twice, started over, sent in pieces.
 
     python3 host/demo.py TOOL
 
 Makes a scratch partition and an update, stores the update through the tool with
 power cut after some blocks and the next block torn, starts over, and compares
 every byte.  Then it prints the distance record as it stands on the partition
-before and after, and a map of the partition at each stop.  Ends with 1 if
-anything is not as it should be.
+before and after, and a map of the partition at each stop.  Last, the update
+arrives in odd pieces through standard input, and power is cut while a raw block
+and while a fill chunk arrives.  Ends with 1 if anything is not as it should be.
 """
 
+import array
+import contextlib
+import fcntl
 import os
 import random
 import subprocess
 import sys
 import tempfile
+import termios
+import time
 from pathlib import Path
-from typing import List, Tuple, Union
+from typing import Callable, List, NamedTuple, Sequence, Tuple, Union
 
 ROOT = os.path.dirname(os.path.dirname(os.path.abspath(__file__)))
 sys.path.insert(0, os.path.join(ROOT, "tests", "reference"))
@@ -28,6 +34,21 @@ RECORD_AT = 5
 BLOCKS = 16
 STORED = (0, 1, 2, 3, 4, 7, 8, 9, 10, 11)
 WRITTEN, TORN, KEPT, TO_COME = "#T.-"
+LONGEST_WAIT = 20
+
+
+class Stop(NamedTuple):
+    """Where power fails while the update arrives: the bytes of it that have come, the byte of the partition up to
+    which all is stored that will be, and what that means."""
+
+    come: int
+    due: int
+    what: str
+
+
+IN_A_BLOCK = Stop(28 + 12 + BLOCK + 1500, BLOCK + 1500, "1500 of the 4096 bytes of block 1 have come")
+IN_A_FILL = Stop(28 + 5 * 12 + 6 * BLOCK + 4 + 2, 10 * BLOCK,
+                 "2 of the 4 bytes have come that blocks 10 and 11 are filled with")
 
 
 def original() -> bytes:
@@ -107,6 +128,80 @@ def cut(tool: str, image: Path, partition: Path, before: bytes, limit: int) -> b
     return partition.read_bytes()
 
 
+def odd_pieces(data: bytes) -> List[bytes]:
+    """The bytes, cut at odd places."""
+    rng, pieces = random.Random(3), []
+    while data:
+        length = rng.randrange(1, 2000)
+        pieces.append(data[:length])
+        data = data[length:]
+    return pieces
+
+
+def holds_soon(holds: Callable[[], bool]) -> bool:
+    """Whether something holds, now or after a while."""
+    end = time.monotonic() + LONGEST_WAIT
+    while not holds() and time.monotonic() < end:
+        time.sleep(0.001)
+    return holds()
+
+
+def is_drained(process: subprocess.Popen) -> bool:
+    """Whether a process has read all that was sent to it, or has ended."""
+    left = array.array("i", [0])
+    fcntl.ioctl(process.stdin, termios.FIONREAD, left)
+    return left[0] == 0 or process.poll() is not None
+
+
+def feed(process: subprocess.Popen, pieces: Sequence[bytes]) -> None:
+    """Sends pieces to a process, each when it has read the one before, until it ends."""
+    with contextlib.suppress(BrokenPipeError):
+        for piece in pieces:
+            process.stdin.write(piece)
+            holds_soon(lambda: is_drained(process))
+
+
+def begin_arrival(tool: str, image: bytes, partition: Path, come: int) -> subprocess.Popen:
+    """Stores the update as it arrives; so many bytes of it do, in odd pieces."""
+    words = ["store", "-", str(partition), "--length", str(len(image))]
+    pieces = odd_pieces(image[:come])
+    print(f"$ tarpaulark store - {partition.name} --length {len(image)}")
+    print(f"   {come} bytes arrive in {len(pieces)} pieces")
+    process = subprocess.Popen(
+        [tool, *words], stdin=subprocess.PIPE, stdout=subprocess.PIPE, stderr=subprocess.STDOUT, bufsize=0
+    )
+    feed(process, pieces)
+    return process
+
+
+def cut_arrival(tool: str, image: bytes, partition: Path, after: bytes, stop: Stop) -> bytes:
+    """Ends the tool when all that is due is stored; what the partition holds."""
+    before = partition.read_bytes()
+    process = begin_arrival(tool, image, partition, stop.come)
+    holds_soon(lambda: partition.read_bytes()[:stop.due] == after[:stop.due])
+    process.kill()
+    process.communicate()
+    print(f"   power fails: {stop.what}")
+    now = partition.read_bytes()
+    check(now == after[:stop.due] + before[stop.due:], "what is due by then is stored, and nothing else")
+    check(is_kept(before, now), "every byte that the update skips is as it was")
+    check(RECORD in now, "the distance record is whole")
+    return now
+
+
+def arrive(tool: str, image: bytes, partition: Path, before: bytes, after: bytes) -> None:
+    """The update arrives in odd pieces: cut in the middle of a raw block and of a fill chunk, then whole."""
+    print("\nThe same update is stored as it arrives, on the partition as it was before.")
+    partition.write_bytes(before)
+    first = cut_arrival(tool, image, partition, after, IN_A_BLOCK)
+    second = cut_arrival(tool, image, partition, after, IN_A_FILL)
+    process = begin_arrival(tool, image, partition, len(image))
+    print("   " + process.communicate()[0].decode().rstrip())
+    check(process.returncode == 0, "the update is stored")
+    check(partition.read_bytes() == after, "the partition is the one that never lost power, byte for byte")
+    show(before, [("cut in a block", first), ("cut in a fill", second), ("after", partition.read_bytes())])
+
+
 def show(before: bytes, stops: List[Tuple[str, bytes]]) -> None:
     """The record before and after, and the map of the partition at each stop."""
     after = stops[-1][1]
@@ -145,6 +240,7 @@ def demo(tool: str, folder: Path) -> None:
     run(tool, "store", image, whole)
     check(whole.read_bytes() == after, "both partitions are the same, byte for byte")
     show(before, [("first cut", first), ("second cut", second), ("after", after)])
+    arrive(tool, image.read_bytes(), partition, before, after)
 
 
 def main() -> int:

@@ -13,9 +13,14 @@
 static const char busy[] = "is busy: another program works on it; run the same command again when that has ended";
 static uint8_t no_bytes[1];
 
+static bool is_file_or_device(const struct stat *status)
+{
+    return S_ISREG(status->st_mode) || S_ISBLK(status->st_mode);
+}
+
 static void expect_kind(const char *path, const struct stat *status)
 {
-    if (!S_ISREG(status->st_mode) && !S_ISBLK(status->st_mode))
+    if (!is_file_or_device(status))
         misused(path, "is no file and no block device; name one");
 }
 
@@ -70,6 +75,22 @@ struct mapped open_file(const char *path, enum use use)
     file.file = open_kind(path, use, &file.before);
     expect_apart(path, &file.before);
     return file;
+}
+
+struct mapped open_input(void)
+{
+    struct mapped file = {.path = "standard input", .file = STDIN_FILENO, .use = READ_IMAGE, .at = no_bytes};
+
+    if (fstat(file.file, &file.before) != 0)
+        failed(file.path, "cannot be read; see to where it comes from", errno);
+    if (is_file_or_device(&file.before))
+        expect_apart(file.path, &file.before);
+    return file;
+}
+
+off_t place_in(const struct mapped *file)
+{
+    return is_file_or_device(&file->before) ? lseek(file->file, 0, SEEK_CUR) : -1;
 }
 
 void lock_file(const char *path, int file, bool alone)
@@ -148,7 +169,13 @@ void expect_in_place(const struct mapped *file)
         failed(file->path, "was replaced or cut while it was stored on; store the image again", 0);
 }
 
+/* The clock of the progress line may interrupt this on some file systems. */
 bool is_synced(const struct mapped *file)
 {
-    return (file->length == 0 || msync(file->at, file->length, MS_SYNC) == 0) && fsync(file->file) == 0;
+    bool synced;
+
+    do {
+        synced = (file->length == 0 || msync(file->at, file->length, MS_SYNC) == 0) && fsync(file->file) == 0;
+    } while (!synced && errno == EINTR);
+    return synced;
 }

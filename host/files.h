@@ -24,6 +24,12 @@ struct mapped {
 /* Opens a regular file or a block device, apart from what is printed; anything else is bad usage. */
 struct mapped open_file(const char *path, enum use use);
 
+/* Standard input, of which nothing is locked or mapped; where it is a file, it is apart from what is printed. */
+struct mapped open_input(void);
+
+/* Where an open file stands that can be read again; less than 0 for a pipe and the like. */
+off_t place_in(const struct mapped *file);
+
 /* Whether both are one file, by whatever names. */
 bool is_same(const struct stat *one, const struct stat *other);
 

@@ -1,23 +1,43 @@
 /* Judging a sparse image. */
 #include "chunks.h"
 #include "commands.h"
+#include "passes.h"
 
-enum status judge(const struct request *request)
+static enum status say_accepted(const uint64_t *answer)
 {
-    uint64_t answer[TARPAULARK_JUDGE_ANSWER], length;
-    struct mapped image;
-    uint32_t number;
-
-    if (!as_number(request->words[1], UINT64_MAX, &length))
-        misused(NULL, "PARTITION-LENGTH is a number of bytes");
-    image = read_image(request->words[0]);
-    number = tarpaulark_judge(image.at, image.length, length, answer);
-    expect_read(&image);
-    if (number != 0)
-        return refuse_image(&image, number, answer[TARPAULARK_PLACE]);
     say_word("ok");
     say_number("written", answer[TARPAULARK_WRITTEN]);
     say_number("skipped", answer[TARPAULARK_SKIPPED]);
     end_line();
     return DONE;
+}
+
+static enum status judge_file(const char *path, uint64_t room)
+{
+    uint64_t answer[TARPAULARK_JUDGE_ANSWER];
+    struct mapped image = read_image(path);
+    uint32_t number = tarpaulark_judge(image.at, image.length, room, answer);
+
+    expect_read(&image);
+    return number != 0 ? refuse_image(&image, number, answer[TARPAULARK_PLACE]) : say_accepted(answer);
+}
+
+static enum status judge_input(uint64_t length, uint64_t room)
+{
+    struct source source = input_source(length);
+    struct pass pass;
+    uint32_t number = judge_pieces(&source, room, &pass);
+
+    if (source.start >= 0)
+        expect_read(&source.file);
+    return number != 0 ? refuse_pass(&pass, number) : say_accepted(pass.answer);
+}
+
+enum status judge(const struct request *request)
+{
+    uint64_t room;
+
+    if (!as_number(request->words[1], UINT64_MAX, &room))
+        misused(NULL, "PARTITION-LENGTH is a number of bytes");
+    return is_input(request) ? judge_input(request->length, room) : judge_file(request->words[0], room);
 }

@@ -15,7 +15,7 @@ static void say_chunk(const struct mapped *image, const struct chunk *chunk, uin
     say_column("from", 15, chunk->first * block);
     say_column("before", 15, (chunk->first + (uint64_t)chunk->blocks) * block);
     if (chunk->kind == TARPAULARK_FILL)
-        say_hex("word", fill_word(image, chunk), false);
+        say_hex("word", word_at(image->at + chunk->data), false);
     close_item();
 }
 

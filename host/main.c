@@ -17,9 +17,13 @@ static const struct command {
     enum status (*run)(const struct request *request);
     const char *usage, *help;
 } commands[] = {
-    {"judge", 2, 2, 0, judge, "judge IMAGE PARTITION-LENGTH",
+    {"judge", 2, 2, LENGTH, judge,
+     "judge IMAGE PARTITION-LENGTH\n"
+     "       tarpaulark judge - PARTITION-LENGTH --length BYTES",
      "says whether a sparse image is accepted for a partition of so many bytes"},
-    {"store", 2, 2, DRY_RUN | LIMIT, store, "store IMAGE PARTITION [--limit BLOCKS] [--dry-run]",
+    {"store", 2, 2, DRY_RUN | LIMIT | LENGTH, store,
+     "store IMAGE PARTITION [--limit BLOCKS] [--dry-run]\n"
+     "       tarpaulark store - PARTITION --length BYTES",
      "stores it on a partition, a file or a block device whose length stays; with a\n"
      "          limit only its first blocks to be stored, as if power were cut; as a dry run\n"
      "          nothing, and the bytes that would be kept are listed"},
@@ -47,6 +51,13 @@ static const char options_help[] =
     "--json prints one object in place of the text, with the same numbers; for a refusal\n"
     "and a failure too. -h or --help, alone or after a command, prints this, --version the\n"
     "version. After -- no word is taken for an option.\n"
+    "\n"
+    "- is an image that comes by standard input, in pieces of any length; --length announces\n"
+    "how many bytes it has. One in a file is judged before its first byte is stored, here too;\n"
+    "one that comes through a pipe is stored as it comes. Where that is refused late, what had\n"
+    "come due before is stored: send the right image from its start.\n"
+    "\n"
+    "Where standard error is a terminal, store and what reads - show there how far they are.\n"
     "\n"
     "Images, partitions and records are locked while they are used; a busy one is left\n"
     "alone. Results are on the disk before they are printed.\n"

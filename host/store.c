@@ -1,8 +1,12 @@
 /* Storing a sparse image on a partition, or saying what that would keep. */
 #include "chunks.h"
 #include "commands.h"
+#include "passes.h"
+#include "progress.h"
 
 #include <errno.h>
+
+static const char changed[] = "the image changed while it was stored; store it again";
 
 /* Bytes of the partition that are kept, as stretches that do not touch. */
 struct kept {
@@ -92,6 +96,12 @@ static enum status try_dry(
     return DONE;
 }
 
+static void put_on_disk(const struct mapped *partition)
+{
+    if (!is_synced(partition))
+        failed(partition->path, "may not be on the disk; see to the disk, and run the same command again", errno);
+}
+
 static enum status store_now(
     const struct request *request, const struct mapped *image, const struct mapped *partition)
 {
@@ -104,9 +114,9 @@ static enum status store_now(
     else
         number = tarpaulark_store(
             image->at, image->length, partition->at, partition->length, answer);
-    if (number == 0 && !is_synced(partition))
-        failed(partition->path, "may not be on the disk; see to the disk, and run the same command again", errno);
-    expect_unchanged(image, "the image changed while it was stored; store it again");
+    if (number == 0)
+        put_on_disk(partition);
+    expect_unchanged(image, changed);
     if (number != 0)
         return refuse_image(image, number, answer[TARPAULARK_PLACE]);
     expect_in_place(partition);
@@ -114,16 +124,95 @@ static enum status store_now(
     return DONE;
 }
 
-enum status store(const struct request *request)
+/* Until the file header has passed its tests, nothing has come due. */
+static enum status refuse_late(const struct pass *pass, uint32_t number)
+{
+    enum status status = refuse_pass(pass, number);
+
+    if (number > TARPAULARK_BAD_ROOM)
+        advise("partition", "what had come due before is stored; send the right image from its start: stored in full,"
+                            " it makes good all that it stores, but not what it skips");
+    return status;
+}
+
+/* Judges an image that can be read again before any of it is stored; 0 or the refusal. */
+static uint32_t judge_first(const struct source *source, const struct mapped *partition, struct pass *pass)
+{
+    uint32_t number;
+
+    if (source->start < 0)
+        return 0;
+    number = judge_pieces(source, partition->length, pass);
+    expect_unchanged(&source->file, changed);
+    return number;
+}
+
+/* An image that was judged is refused only where it was changed. Another is stored as it comes, and what a
+   refusal leaves is put on the disk too. */
+static enum status store_by_passes(
+    const struct request *request, const struct source *source, const struct mapped *partition)
+{
+    struct pass pass;
+    uint32_t number = judge_first(source, partition, &pass);
+
+    if (number != 0)
+        return refuse_pass(&pass, number);
+    number = store_pieces(source, partition, &pass);
+    begin_progress("putting it on the disk", 0);
+    put_on_disk(partition);
+    end_progress();
+    if (source->start >= 0)
+        expect_unchanged(&source->file, changed);
+    if (source->start >= 0 && number != 0)
+        failed(source->file.path, changed, 0);
+    if (number != 0)
+        return refuse_late(&pass, number);
+    expect_in_place(partition);
+    say_stored(request, pass.answer);
+    return DONE;
+}
+
+static void expect_two_files(const struct mapped *image, const struct mapped *partition)
+{
+    if (is_same(&image->before, &partition->before))
+        misused(NULL, "IMAGE and PARTITION are one file: name two");
+}
+
+static enum status store_input(const struct request *request)
+{
+    struct source source;
+    struct mapped partition;
+
+    if (request->has_limit)
+        misused(NULL, "--limit is for an image in a file: a pass over standard input has no limit");
+    if (request->dry_run)
+        misused(NULL, "--dry-run is for an image in a file: judge what comes by standard input instead");
+    source = input_source(request->length);
+    partition = open_file(request->words[1], CHANGE_PARTITION);
+    expect_two_files(&source.file, &partition);
+    hold_file(&partition);
+    return store_by_passes(request, &source, &partition);
+}
+
+static enum status store_file(const struct request *request)
 {
     struct mapped image = open_file(request->words[0], READ_IMAGE);
     struct mapped partition =
         open_file(request->words[1], request->dry_run ? LOOK_AT_PARTITION : CHANGE_PARTITION);
+    struct source source;
 
-    if (is_same(&image.before, &partition.before))
-        misused(NULL, "IMAGE and PARTITION are one file: name two");
+    expect_two_files(&image, &partition);
     hold_file(&image);
     hold_file(&partition);
-    return request->dry_run ? try_dry(request, &image, &partition)
-                            : store_now(request, &image, &partition);
+    if (request->dry_run)
+        return try_dry(request, &image, &partition);
+    if (request->has_limit || !is_watched())
+        return store_now(request, &image, &partition);
+    source = file_source(&image);
+    return store_by_passes(request, &source, &partition);
+}
+
+enum status store(const struct request *request)
+{
+    return is_input(request) ? store_input(request) : store_file(request);
 }

@@ -13,12 +13,28 @@ bool as_number(const char *text, uint64_t most, uint64_t *number)
     return text[0] >= '0' && text[0] <= '9' && *end == '\0' && errno == 0 && *number <= most;
 }
 
+/* The number that follows an option; `what` says what the option takes. */
+static uint64_t number_after(const char *value, const char *what)
+{
+    uint64_t number;
+
+    if (value == NULL || !as_number(value, UINT64_MAX, &number))
+        misused(NULL, what);
+    return number;
+}
+
 static void take_limit(struct line *line, const char *value)
 {
-    if (value == NULL || !as_number(value, UINT64_MAX, &line->request.limit))
-        misused(NULL, "--limit takes a number of blocks");
-    line->options |= LIMIT;
+    line->request.limit = number_after(value, "--limit takes a number of blocks");
     line->request.has_limit = true;
+    line->options |= LIMIT;
+}
+
+static void take_length(struct line *line, const char *value)
+{
+    line->request.length = number_after(value, "--length takes a number of bytes");
+    line->request.has_length = true;
+    line->options |= LENGTH;
 }
 
 static void take_svg(struct line *line, const char *value)
@@ -40,6 +56,10 @@ static int take_option(struct line *line, char **words)
 {
     if (strcmp(words[0], "--limit") == 0) {
         take_limit(line, words[1]);
+        return 2;
+    }
+    if (strcmp(words[0], "--length") == 0) {
+        take_length(line, words[1]);
         return 2;
     }
     if (strcmp(words[0], "--svg") == 0) {

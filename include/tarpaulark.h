@@ -1,22 +1,25 @@
 /*
- * Tarpaulark: judges and stores Android sparse images, writes them from flat
- * bytes, finds the sections of a boot image, and keeps the slot record.
+ * Tarpaulark: judges and stores Android sparse images, whole or as they arrive in
+ * pieces, writes them from flat bytes, finds the sections of a boot image, and
+ * keeps the slot record.
  *
  * Every function takes any input and always ends. It returns 0, or the number of
  * the first refusal that applies, and fills the lent array `answer`, whose length
  * is fixed; entries that do not apply are 0. A refusal stores nothing and changes
- * no slot record.
+ * no slot record, with one exception: a storing pass that refuses late (see
+ * Passes, below).
  *
- * Nothing is allocated, nothing is kept between calls, and nothing is read or
- * written but what is lent. Calls on memory of their own may run at one time.
+ * Nothing is allocated, nothing is kept between calls but in what is lent, and
+ * nothing is read or written but what is lent. Calls on memory of their own may
+ * run at one time.
  *
  * What the caller owes
  *
  * Bytes are lent as a pointer and their number. Lend the whole stretch; a pointer
- * whose number is 0 is never followed. An answer and a record are lent whole and
- * must not be null. What is written (a partition, an output, a record, an answer)
- * must not overlap anything else that is lent to the call, and nobody else writes
- * to what is lent meanwhile.
+ * whose number is 0 is never followed. An answer, a record and a pass are lent
+ * whole and must not be null. What is written (a partition, an output, a record, a
+ * pass, an answer) must not overlap anything else that is lent to the call, and
+ * nobody else writes to what is lent meanwhile.
  *
  * Where it runs
  *
@@ -33,8 +36,9 @@
  * header: every chunk takes at least 12 bytes of the image, and one of fill or
  * skipped blocks costs at most a fixed number of steps, however many blocks it
  * names. Storing takes that, and time in proportion to the bytes that it stores.
- * Writing takes time in proportion to the flat bytes, which are read three times
- * at most. All else takes a fixed number of steps.
+ * A pass takes the same, and a fixed number of steps for each call. Writing takes
+ * time in proportion to the flat bytes, which are read three times at most. All
+ * else takes a fixed number of steps.
  *
  * What a restart assumes
  *
@@ -54,9 +58,9 @@
 #include <stdint.h>
 
 /* The version of the header, the library and the host tool; it stands only here. */
-#define TARPAULARK_VERSION "0.1.0"
+#define TARPAULARK_VERSION "0.2.0"
 
-/* Lengths of the answers, and of a slot record. */
+/* Lengths of the answers, of a slot record, and of the state of a pass. */
 #define TARPAULARK_JUDGE_ANSWER 3
 #define TARPAULARK_STORE_ANSWER 3
 #define TARPAULARK_STORE_LIMITED_ANSWER 2
@@ -66,14 +70,18 @@
 #define TARPAULARK_LOCATE_ANSWER 19
 #define TARPAULARK_SLOTS_ANSWER 2
 #define TARPAULARK_RECORD 17
+#define TARPAULARK_PIECE_ANSWER 1
+#define TARPAULARK_FINISH_ANSWER 3
+#define TARPAULARK_PASS 104
 
 /* The most bytes that the image of flat bytes takes at a block size above 0. */
 #define TARPAULARK_WRITE_BOUND(flat_len, block_size) \
     (28 + (uint64_t)(flat_len) + 12 * ((uint64_t)(flat_len) / (block_size)))
 
 /*
- * Refusals. Tests run in the order listed, but for 13 before 12 and 28, 27 before
- * 26. Chunks are tested in order, each fully before the next.
+ * Refusals. Tests run in the order listed, but for 13 before 12, 28, 27 before 26,
+ * and for a pass 16, 14, 15 before all others. Chunks are tested in order, each
+ * fully before the next.
  *
  * A sparse refusal carries a place: 0 for numbers 1 to 6, the chunk's offset for
  * 7, 8 and a passed total, the offset after the header and all chunks for a short
@@ -111,6 +119,12 @@ enum tarpaulark_refusal {
     TARPAULARK_BAD_OUTPUT = 12,
     /* flat length above 2,147,483,648 or not whole blocks (after 5) */
     TARPAULARK_BAD_FLAT = 13,
+    /* a pass: more bytes than announced */
+    TARPAULARK_BAD_MORE = 14,
+    /* a pass: finished with fewer bytes than announced */
+    TARPAULARK_BAD_FEWER = 15,
+    /* a pass: the lent partition has another length than announced */
+    TARPAULARK_BAD_PARTITION = 16,
     /* boot input under 44 bytes, or (after 23) under its header length */
     TARPAULARK_BAD_BOOT_LENGTH = 21,
     /* boot magic is not ANDROID! */
@@ -276,6 +290,96 @@ uint32_t tarpaulark_header(
 uint32_t tarpaulark_chunk(
     const uint8_t *image, size_t image_len, uint64_t at, uint32_t first,
     uint64_t answer[TARPAULARK_CHUNK_ANSWER]);
+
+/*
+ * Passes: an image that arrives in pieces.
+ *
+ * A judging pass, then a storing pass. Each is begun, which tells it the lengths
+ * of the whole image and of the partition; is fed the image in pieces, cut
+ * anywhere, of any lengths, 0 too; and is finished. Pieces are not kept: a pass
+ * holds TARPAULARK_PASS bytes of state, which the caller lends to each call and
+ * otherwise leaves alone. Only finishing accepts.
+ *
+ * Each test runs in the first call by which the bytes that it reads, and all that
+ * stands before its chunk, have come; the announced length counts as the image's.
+ * Before these, in this order: 16, 14, 15. A call refused with one of those takes
+ * none of its bytes and stores nothing. A refusal that was given is given again
+ * by every later call, before any test.
+ *
+ * Where the pieces together are exactly the announced length and no call gets 14,
+ * 15 or 16, the judging pass answers what tarpaulark_judge answers for the whole
+ * image. For an image that is accepted, fed to a storing pass of which each call
+ * is lent the partition as the last left it, that pass answers and stores what
+ * tarpaulark_store does; left at any moment before that, it has stored some first
+ * blocks, as a cut has, and the next block may be stored in part.
+ *
+ * So judge the whole image by a judging pass first. A storing pass stores each
+ * byte as it comes due: a raw block as far as it came, a fill chunk whole once its
+ * fourth byte has come. Fed other bytes than those of an accepted image, it may
+ * refuse late, and what came due before the refusal is then stored; nothing else
+ * is, and nothing outside the lent partition.
+ *
+ * A call of either kind may follow on the same state. Bytes that came by a judging
+ * call are not stored by a later storing call.
+ *
+ * The state is TARPAULARK_PASS bytes, numbers low byte first:
+ *
+ *    at 0 (8)    the announced length of the image
+ *    at 8 (8)    the announced length of the partition
+ *    at 16 (4)   the number of the refusal that was given, or 0
+ *    at 20 (8)   its place
+ *    at 28 (8)   how many bytes have come
+ *    at 36 (4)   the checksum's state over the blocks that they give
+ *    at 40 (8)   where the next chunk begins in the image
+ *    at 48 (4)   its first block
+ *    at 52 (4)   how many chunks are still to be read
+ *    at 56 (4)   blocks that those which were read write
+ *    at 60 (28)  the known fields of the file header, as far as they have come
+ *    at 88 (12)  those of the chunk header that came last
+ *    at 100 (4)  the word of a fill chunk
+ *
+ * Any bytes at all are a state: no call does anything outside what is lent to it,
+ * or fails to end, whatever the state holds.
+ *
+ * answer of a piece: place of the refusal, or 0; of finishing: as for
+ * tarpaulark_judge.
+ */
+
+/*
+ * Begins a pass over an image of image_len bytes for a partition of partition_len
+ * bytes. Writes the state, whatever it held. Telling refuses nothing.
+ */
+void tarpaulark_pass_begin(uint64_t image_len, uint64_t partition_len, uint8_t pass[TARPAULARK_PASS]);
+
+/*
+ * A piece for the judging pass. Refusals: one given before; 14; 1 to 11.
+ */
+uint32_t tarpaulark_pass_judge_piece(
+    uint8_t pass[TARPAULARK_PASS], const uint8_t *piece, size_t piece_len,
+    uint64_t answer[TARPAULARK_PIECE_ANSWER]);
+
+/*
+ * Finishes the judging pass. Refusals: one given before; 15; 1 where a length of 0
+ * was announced.
+ */
+uint32_t tarpaulark_pass_judge_finish(
+    uint8_t pass[TARPAULARK_PASS], uint64_t answer[TARPAULARK_FINISH_ANSWER]);
+
+/*
+ * A piece for the storing pass. Writes exactly the bytes of the partition that
+ * have come due since the last call. Refusals: one given before; 16; 14; 1 to 11.
+ */
+uint32_t tarpaulark_pass_store_piece(
+    uint8_t pass[TARPAULARK_PASS], const uint8_t *piece, size_t piece_len,
+    uint8_t *partition, size_t partition_len, uint64_t answer[TARPAULARK_PIECE_ANSWER]);
+
+/*
+ * Finishes the storing pass, which stores nothing more. Refusals: one given
+ * before; 16; 15; 1 where a length of 0 was announced.
+ */
+uint32_t tarpaulark_pass_store_finish(
+    uint8_t pass[TARPAULARK_PASS], const uint8_t *partition, size_t partition_len,
+    uint64_t answer[TARPAULARK_FINISH_ANSWER]);
 
 /*
  * Finds the sections of a boot image. Reads the image.

@@ -13,28 +13,34 @@ import contextlib
 import fcntl
 import json
 import os
+import pty
 import random
 import re
+import select
 import shlex
 import shutil
 import signal
 import stat
+import struct
 import subprocess
 import sys
 import tempfile
-import time
+import termios
 import xml.etree.ElementTree
-from typing import Any, Callable, Dict, Iterator, List, NamedTuple, Optional, Tuple
+from typing import Any, Callable, Dict, Iterator, List, NamedTuple, Optional, Sequence, Tuple
 
 HERE = os.path.dirname(os.path.abspath(__file__))
 ROOT = os.path.dirname(HERE)
-sys.path.insert(0, os.path.join(HERE, "reference"))
+sys.path[:0] = [os.path.join(HERE, "reference"), os.path.join(ROOT, "host")]
 
 import build
 import cases_store
+import demo
+import passes
 import sparse
+import store
 
-LONGEST_WAIT = 20
+LONGEST_WAIT = demo.LONGEST_WAIT
 
 
 class Case(NamedTuple):
@@ -104,6 +110,12 @@ CASES = (
     Case("judge p2", 2, ""),
     Case("judge p2 12 --limit 1", 2, ""),
     Case("judge p2 12 --strange", 2, ""),
+    Case("judge - 12", 2, ""),
+    Case("judge - 12 --length", 2, ""),
+    Case("judge - 12 --length -1", 2, ""),
+    Case("judge - --length 56", 2, ""),
+    Case("judge p2 12 --length 56", 2, ""),
+    Case("judge ./- 12 --length 56", 2, ""),
     Case("store p2 part", 0, "ok written 1 skipped 2"),
     Case("store p6 part", 1, "refused 10 at 56"),
     Case("store p2 cut --limit 0", 0, "ok stored 0"),
@@ -117,6 +129,13 @@ CASES = (
     Case("store kinds long --dry-run --limit 3", 0,
          "ok stored 3\nkept from 12 before 48\ndry run: nothing is stored"),
     Case("store kinds cut --dry-run", 1, "refused 6 at 0"),
+    Case("store - cut", 2, ""),
+    Case("store p2 cut --length 56", 2, ""),
+    Case("store - cut --length 56 --limit 1", 2, ""),
+    Case("store - cut --length 56 --dry-run", 2, ""),
+    Case("store - missing --length 56", 3, ""),
+    Case("list p2 --length 56", 2, ""),
+    Case("list -", 3, ""),
     Case("list kinds", 0, LISTED),
     Case("list p6", 1, "refused 10 at 56"),
     Case("map kinds", 0, DRAWN),
@@ -213,11 +232,26 @@ class Tool:
             check=False,
         )
 
-    def begin(self, words: str, **faults: str) -> "subprocess.Popen[bytes]":
+    def begin(
+        self, words: str, stdin: Any = None, stderr: Any = subprocess.PIPE, **faults: str
+    ) -> "subprocess.Popen[bytes]":
         """Begins to run it."""
         return subprocess.Popen(
-            self.command(words), env=self.environment(**faults), stdout=subprocess.PIPE, stderr=subprocess.PIPE
+            self.command(words), env=self.environment(**faults), stdin=stdin, stdout=subprocess.PIPE, stderr=stderr,
+            bufsize=0,
         )
+
+    def send(self, words: str, pieces: Sequence[bytes], **faults: str) -> "subprocess.CompletedProcess[str]":
+        """Runs it to its end on pieces that come through a pipe, each read before the next is there."""
+        process = self.begin(words, subprocess.PIPE, **faults)
+        demo.feed(process, pieces)
+        return ended(process)
+
+
+def ended(process: "subprocess.Popen[bytes]") -> "subprocess.CompletedProcess[str]":
+    """Waits for the end of the tool."""
+    said = [(text or b"").decode() for text in process.communicate(timeout=LONGEST_WAIT)]
+    return subprocess.CompletedProcess(process.args, process.returncode, *said)
 
 
 def read(path: str) -> bytes:
@@ -275,7 +309,8 @@ def printed_into_files(tool: Tool) -> None:
             expect(read("fresh") == FILES["cut"], f"{words} {out}: the partition")
     save("tried", TRIED)
     for words, name in (("list p2", "p2"), ("slots tried show", "tried"), ("slots tried start", "tried"),
-                        ("write flat 8 p6", "p6")):
+                        ("write flat 8 p6", "p6"), ("judge - 12 --length 56 <p2", "p2"),
+                        ("store - p6 --length 56 <p2", "p6"), ("store - p6 --length 56 <p2", "p2")):
         before = read(name)
         expect_end(tool.run(words, f">>{name}"), 2, "print it elsewhere")
         expect(read(name) == before, f"{words} >>{name}")
@@ -362,9 +397,7 @@ def waiting(tool: Tool, words: str, **faults: str) -> "Iterator[subprocess.Popen
     """The tool, held up where it puts a file on the disk; killed at the end."""
     process = tool.begin(words, WAIT="mark", **faults)
     try:
-        end = time.monotonic() + LONGEST_WAIT
-        while not os.path.exists("mark") and process.poll() is None and time.monotonic() < end:
-            time.sleep(0.005)
+        demo.holds_soon(lambda: os.path.exists("mark") or process.poll() is not None)
         expect(os.path.exists("mark"), f"{words}: the tool did not come so far")
         yield process
     finally:
@@ -547,6 +580,255 @@ def checksum_of_0(tool: Tool) -> None:
     expect(done.returncode == 1 and words not in done.stderr, "a checksum that is stated", done)
 
 
+# Images that come by standard input.
+
+STORE_P2 = "store - cut --length 56"
+
+
+def cut_anywhere(rng: random.Random, data: bytes) -> List[bytes]:
+    """Bytes in pieces of any lengths from 1 on."""
+    cuts = sorted(rng.sample(range(len(data) + 1), min(len(data), rng.randrange(6))))
+    pieces = [data[start:end] for start, end in zip([0] + cuts, cuts + [len(data)])]
+    return [piece for piece in pieces if piece]
+
+
+def stored_in_pieces(pieces: Sequence[bytes], length: int, partition: bytes) -> Tuple[passes.Answer, bytes]:
+    """What a storing pass that is fed the pieces answers, and what it leaves, by the reference."""
+    state = passes.begin(length, len(partition))
+    for piece in pieces:
+        state, answer, partition = passes.store_piece(state, piece, partition)
+        if isinstance(answer, sparse.Refusal):
+            return answer, partition
+    return passes.store_finish(state, partition)[1:]
+
+
+def expect_answer(done: "subprocess.CompletedProcess[str]", answer: passes.Answer, late: bool = False) -> None:
+    """The answer of the reference, and words about the partition where a refusal may come late."""
+    if isinstance(answer, sparse.Refusal):
+        expect_end(done, 1, f"refused {answer.number} at {answer.place}\n")
+        told = "what had come due before is stored" in done.stderr
+        expect(told == (late and answer.number > 6) and done.stdout == "", "what is said of the partition", done)
+    else:
+        expect(isinstance(answer, sparse.Accepted), f"the answer {answer}")
+        expect(done.stdout == f"ok written {answer.written} skipped {answer.skipped}\n", f"{answer} expected", done)
+
+
+def images_to_send(rng: random.Random) -> Iterator[Tuple[bytes, bytes]]:
+    """Images, refused ones among them, and a partition for each."""
+    for image in cases_store.refused_images(41):
+        yield image, rng.randbytes(41)
+    for _ in range(8):
+        image = cases_store.random_image(rng)
+        yield image, rng.randbytes(cases_store.total_length(image) % 1000 + rng.randrange(9))
+
+
+def sent_in_pieces(tool: Tool) -> None:
+    """What comes through a pipe, however it is cut, is judged and stored as by the reference, or refused late."""
+    rng = random.Random(13)
+    for image, partition in images_to_send(rng):
+        pieces = cut_anywhere(rng, image)
+        length = max(0, len(image) + rng.choice((0, 0, 0, -1, 1)))
+        answer, after = stored_in_pieces(pieces, length, partition)
+        expect_answer(tool.send(f"judge - {len(partition)} --length {length}", pieces), answer)
+        save("fresh", partition)
+        expect_answer(tool.send(f"store - fresh --length {length}", pieces), answer, late=True)
+        expect(read("fresh") == after, f"the partition after {pieces} of {length}")
+
+
+def sent_from_files(tool: Tool) -> None:
+    """An image that a file holds from where it stands on is judged first, and a refusal stores nothing."""
+    rng = random.Random(14)
+    for image, partition in images_to_send(rng):
+        verdict, after = store.store(image, partition)
+        save("image", image)
+        expect_answer(tool.run(f"judge - {len(partition)} --length {len(image)}", "<image"), verdict)
+        save("image", b"before" + image)
+        save("fresh", partition)
+        with open("image", "rb", buffering=0) as file:
+            file.seek(6)
+            process = tool.begin(f"store - fresh --length {len(image)}", file)
+            expect_answer(ended(process), verdict)
+        expect(read("fresh") == after, f"the partition after {verdict}")
+
+
+def wrong_lengths(tool: Tool) -> None:
+    """Too few bytes, too many and none at all, from a file and through a pipe."""
+    p2 = FILES["p2"]
+    for pieces, length, number in (([p2[:50]], 56, 15), ([], 56, 15), ([p2, b"x"], 56, 14), ([p2 + b"x"], 56, 14),
+                                   ([], 0, 1), ([b"x"], 0, 14), ([p2], 57, 10), ([p2], 2**64 - 1, 10)):
+        save("sent", b"".join(pieces))
+        save("cut", FILES["cut"])
+        for words in (f"judge - 12 --length {length}", f"store - cut --length {length}"):
+            expect_end(tool.run(words, "<sent"), 1, f"refused {number} at")
+        expect(read("cut") == FILES["cut"], f"the partition after {number}")
+        done = tool.send(f"store - cut --length {length} --json", pieces)
+        told = json.loads(done.stdout)
+        expect(told["number"] == number and not done.stderr, f"refusal {number}", done)
+        expect(("partition" in told) == (number > 6), "words about the partition", done)
+        expect(read("cut") == stored_in_pieces(pieces, length, FILES["cut"])[1], f"{pieces} of {length}")
+
+
+def kinds_of_input(tool: Tool) -> None:
+    """Standard input that cannot be read, is the partition itself, breaks off or does not wait; nothing is read
+    after a refusal."""
+    for given, status, words in (("<&-", 3, "cannot be read"), ("0>>p6", 3, "cannot be read"),
+                                 ("<.", 3, "cannot be read"), ("</dev/null", 1, "refused 15"),
+                                 ("<cut", 2, "one file"), ("<>cut", 2, "one file")):
+        expect_end(tool.run(STORE_P2, given), status, words)
+    expect(read("cut") == FILES["cut"] and read("p6") == FILES["p6"], "files after what cannot be read")
+    for words in ("judge - 12 --length 56", STORE_P2):
+        expect_end(tool.send(words, [FILES["p2"]], BAD_END="1"), 3, "cannot be read to its end")
+    expect_end(tool.run("judge - 12 --length 56", "<p6", BAD_END="1"), 1, "refused 14")
+    reader, sender = os.pipe()
+    os.set_blocking(reader, False)
+    process = tool.begin(STORE_P2, reader)
+    for piece in (FILES["p2"][:30], FILES["p2"][30:]):
+        os.write(sender, piece)
+        demo.holds_soon(lambda: not select.select([reader], [], [], 0)[0])
+    os.close(sender)
+    expect_end(ended(process), 0)
+    os.close(reader)
+
+
+@contextlib.contextmanager
+def receiving(tool: Tool, words: str, pieces: Sequence[bytes]) -> Iterator[None]:
+    """The tool, fed some pieces and waiting for more; killed at the end."""
+    process = tool.begin(words, subprocess.PIPE)
+    try:
+        demo.feed(process, pieces)
+        yield
+    finally:
+        process.kill()
+        process.communicate(timeout=LONGEST_WAIT)
+
+
+def killed_on_the_way(tool: Tool) -> None:
+    """Killed while an image comes, the tool leaves what is due by then, and the whole image makes it good."""
+    words = f"store - long --length {len(ALL_KINDS)}"
+    for come in (30, 43, 48, 59, 63, 64, len(ALL_KINDS)):
+        after = stored_in_pieces([ALL_KINDS[:come]], len(ALL_KINDS), read("long"))[1]
+        with receiving(tool, words, [ALL_KINDS[:come]]):
+            demo.holds_soon(lambda: read("long") == after)
+            expect_end(tool.run("store p2 long"), 3, "is busy")
+        expect(read("long") == after, f"what {come} bytes leave")
+    expect_end(tool.send(words, [ALL_KINDS[:7], ALL_KINDS[7:]]), 0)
+    expect(read("long") == store.store(ALL_KINDS, FILES["long"])[1], "the partition in the end")
+
+
+def faults_on_the_way(tool: Tool) -> None:
+    """A bad disk is told after a refusal too; so are an image and a partition that change while it is stored."""
+    for image in ("p2", "wrong"):
+        expect_end(tool.send(STORE_P2, [FILES[image]], BAD_FILE="1"), 3, "may not be on the disk")
+    for faults in ({"TOUCH": "p2"}, {"SPOILED": "1"}):
+        expect_end(tool.run(STORE_P2, "<p2", **faults), 3, "the image changed while it was stored; store it again")
+    expect_end(tool.send(STORE_P2, [FILES["p2"]], CUT="cut"), 3, "to its end")
+
+
+# What a terminal shows.
+
+class Screen:
+    """A terminal that is standard error of the tool, and all that the tool sends there."""
+
+    def __init__(self, columns: int = 80) -> None:
+        self.text = ""
+        self.end, self.tools_end = pty.openpty()
+        fcntl.ioctl(self.end, termios.TIOCSWINSZ, struct.pack("HHHH", 24, columns, 0, 0))
+
+    def begin(self, tool: Tool, words: str, stdin: Any = None, **faults: str) -> "subprocess.Popen[bytes]":
+        """Begins to run the tool there."""
+        process = tool.begin(words, stdin, self.tools_end, **faults)
+        os.close(self.tools_end)
+        return process
+
+    def take(self, pattern: str) -> None:
+        """Takes in what comes until it has the pattern, or the tool has ended."""
+        with contextlib.suppress(OSError):
+            while not re.search(pattern, self.text) and select.select([self.end], [], [], LONGEST_WAIT)[0]:
+                self.text += os.read(self.end, 4096).decode()
+
+    def finish(self, process: "subprocess.Popen[bytes]") -> "subprocess.CompletedProcess[str]":
+        """Takes in all; as standard error counts what then stands on the screen."""
+        if process.stdin is not None:
+            process.stdin.close()
+            process.stdin = None
+        self.take("(?!)")
+        os.close(self.end)
+        done = ended(process)
+        done.stderr = self.left()
+        return done
+
+    def left(self) -> str:
+        """What stands there: a return goes back to the first column, and what is there is written over."""
+        rows, column = [""], 0
+        for sign in self.text:
+            if sign == "\n":
+                rows.append("")
+            elif sign != "\r":
+                rows[-1] = rows[-1][:column] + sign + rows[-1][column + 1:]
+            column = column + 1 if sign not in "\r\n" else 0
+        return "\n".join(row.rstrip() for row in rows)
+
+
+BYTES_DONE = r"\r{} {} B of 56 B, [0-9.]+ (?:Ki)?B/s, (?:[0-9]+ s|unknown time) left *"
+
+
+def shown_from_pipes(tool: Tool) -> None:
+    """How far an image has come is shown again and again, while none of it comes too, and wiped before the answer."""
+    for words, what, times in ((STORE_P2, "storing", 2), ("judge - 12 --length 56 --json", "judging", 1)):
+        screen = Screen()
+        process = screen.begin(tool, words, subprocess.PIPE)
+        demo.feed(process, [FILES["p2"][:40]])
+        screen.take(f"(?:{BYTES_DONE.format(what, 40)}){{{times}}}")
+        expect(re.fullmatch(f"(?:{BYTES_DONE.format(what, '[0-9]+')})+", screen.text) is not None, f"{screen.text!r}")
+        demo.feed(process, [FILES["p2"][40:]])
+        done = screen.finish(process)
+        expect(done.stderr == "" and done.stdout == tool.run(words, "<p2").stdout, f"{screen.text!r}", done)
+
+
+def shown_from_files(tool: Tool) -> None:
+    """A file is shown as it is judged, stored and put on the disk, in lines that the terminal has room for."""
+    screen = Screen(30)
+    process = screen.begin(tool, "store p2 cut", SLOW_END="1", WAIT="mark")
+    screen.take("disk")
+    expect(demo.holds_soon(lambda: os.path.exists("mark")), "the tool did not come so far")
+    os.remove("mark")
+    done = screen.finish(process)
+    shown = r"\rjudging 56 B of 56 B.*\rstoring 56 B of 56 B.*\rputting it on the disk, 0 s"
+    expect(re.search(shown, screen.text) is not None, f"what is shown: {screen.text!r}")
+    expect(max(len(line) for line in screen.text.split("\r")) < 30, f"lines that are too long: {screen.text!r}")
+    expect(done.stderr == "" and done.stdout == "ok written 1 skipped 2\n", "what is left", done)
+    expect(read("cut") == LEFT["part"], "the partition")
+    screen = Screen()
+    done = screen.finish(screen.begin(tool, "store p2 cut", SLOW_END="1", BAD_END="1"))
+    expect("\rjudging" in screen.text and done.stderr.startswith("tarpaulark: p2: cannot be read"), "a failure", done)
+
+
+def outcome(tool: Tool, words: str, faults: Dict[str, str], watched: bool) -> Tuple[int, str, str, bytes]:
+    """Status, answer, what is said and the partition after a run on the files as they were."""
+    for name in ("p2", "p6", "cut"):
+        save(name, FILES[name])
+    if watched:
+        screen = Screen()
+        done = screen.finish(screen.begin(tool, words, **faults))
+    else:
+        done = tool.run(words, **faults)
+    return done.returncode, done.stdout, done.stderr, read("cut")
+
+
+def told_on_terminals(tool: Tool) -> None:
+    """Storing a file where a terminal watches ends as it does elsewhere."""
+    images = ("p2", "p6", "p8", "wrong", "kinds", "none", "cut", "missing")
+    plain = [(f"store {image} cut{more}", {}) for image in images for more in ("", " --json")]
+    for words, faults in plain + [
+        ("store p2 cut --limit 1", {}), ("store p2 cut --dry-run", {}), ("store p2 cut", {"BAD_FILE": "1"}),
+        ("store p2 cut", {"TOUCH": "p2"}), ("store p6 cut", {"GROW": "p6"}),
+    ]:
+        here, there = outcome(tool, words, faults, True), outcome(tool, words, faults, False)
+        expect(here == there, f"{words} {faults}: {there}, and on a terminal {here}")
+    changed = outcome(tool, "store p2 cut", {"SPOILED": "1"}, True)
+    expect(changed[0] == 3 and "the image changed while it was stored; store it again" in changed[2], f"{changed}")
+
+
 # What people look for.
 
 def help_and_version(tool: Tool) -> None:
@@ -577,7 +859,7 @@ def same_words(tool: Tool) -> None:
     told = tool.run("--help").stdout
     usages = re.findall(r"^ *(?:usage:)? tarpaulark (.*)$", told, re.MULTILINE)
     statuses = re.findall(r"^(?:Exit status:)? +([0-4]) (.*)$", told, re.MULTILINE)
-    expect(len(usages) == 9 and len(statuses) == 5, f"the help {told}")
+    expect(len(usages) == 11 and len(statuses) == 5, f"the help {told}")
     man = text_of_man(read(os.path.join(ROOT, "host", "tarpaulark.1")).decode("ascii"))
     readme = read(os.path.join(ROOT, "README.md")).decode("utf-8")
     for usage in usages:
@@ -586,7 +868,7 @@ def same_words(tool: Tool) -> None:
     for number, words in statuses:
         expect(f"{number} {words}.".replace("`", "").lower() in man.lower(), f"the man page lacks {words}")
         expect(f"| {number} | {words} |" in readme, f"README.md lacks {words}")
-    for option in ("--json", "-h", "--help", "--version", "--limit", "--dry-run", "--svg", "--"):
+    for option in ("--json", "-h", "--help", "--version", "--limit", "--length", "--dry-run", "--svg", "--"):
         for name, text in (("the help", told), ("the man page", man), ("README.md", readme.replace("`", " "))):
             expect(re.search(rf"(?<![\w-]){option}(?![\w-])", text) is not None, f"{name} lacks {option}")
 
@@ -715,6 +997,8 @@ CHECKS: Tuple[Callable[[Tool], None], ...] = (
     closed_descriptors, printed_into_files, kinds_of_targets, block_devices, links, locks, locks_to_the_end,
     starts_at_once, replaced_at_once, changed_image, lost_partitions, bad_disk, pipes_as_images, interrupted_writes,
     folder_not_synced, checksum_of_0,
+    sent_in_pieces, sent_from_files, wrong_lengths, kinds_of_input, killed_on_the_way, faults_on_the_way,
+    shown_from_pipes, shown_from_files, told_on_terminals,
     help_and_version, same_words, not_printed, same_in_json, as_the_reference, names_of_any_bytes, long_images,
 )
 

@@ -11,6 +11,7 @@
 #include <sys/file.h>
 #include <sys/mman.h>
 #include <sys/stat.h>
+#include <time.h>
 #include <unistd.h>
 
 /* NO_NAMELESS: a file system without nameless files. */
@@ -58,6 +59,36 @@ ssize_t pwrite(int file, const void *bytes, size_t length, off_t at)
         (ssize_t (*)(int, const void *, size_t, off_t))dlsym(RTLD_NEXT, "pwrite");
 
     return next(file, bytes, getenv("FULL") != NULL ? length / 2 : length, at);
+}
+
+static int readings;
+
+/* Counts how often something is read from its start. */
+off_t lseek(int file, off_t at, int whence)
+{
+    off_t (*next)(int, off_t, int) = (off_t (*)(int, off_t, int))dlsym(RTLD_NEXT, "lseek");
+
+    readings += whence == SEEK_SET;
+    return next(file, at, whence);
+}
+
+/* SLOW_END, BAD_END: input whose end takes a while to come, or is an error in its place. SPOILED: input that holds
+   other bytes when it is read again, and no times that tell. */
+ssize_t read(int file, void *bytes, size_t length)
+{
+    ssize_t (*next)(int, void *, size_t) = (ssize_t (*)(int, void *, size_t))dlsym(RTLD_NEXT, "read");
+    ssize_t came = next(file, bytes, length);
+    struct timespec left = {0, 300000000};
+
+    while (came == 0 && getenv("SLOW_END") != NULL && nanosleep(&left, &left) != 0)
+        continue;
+    if (came == 0 && getenv("BAD_END") != NULL) {
+        errno = EIO;
+        return -1;
+    }
+    if (came > 0 && readings > 1 && getenv("SPOILED") != NULL)
+        ((char *)bytes)[came - 1] ^= 1;
+    return came;
 }
 
 /* SIGNAL_NAMED=NUMBER: a signal just after a file without a name has been given one. */

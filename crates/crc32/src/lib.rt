@@ -6,17 +6,20 @@
 // or of n words costs O(log n) steps for every n, so 2^48 bytes take microseconds.
 use crc32_lanes::abreast;
 use crc32_lanes::serial;
+use crc32_runs::carry;
 pub use crc32_runs::update_word;
 pub use crc32_runs::update_zeros;
+use crc32_runs::zeros_power;
 ghost use mathlib.Core.Path.{_≡_};
 ghost use mathlib.Core.List.{List};
 ghost use Prim.Native.Nat.{ℕ};
 ghost use lib.Bits.{bitXor};
-ghost use lib.ListN.{length};
+ghost use lib.ListN.{length, replicate};
 ghost use Rattle.crc32_rules.specs.Crc.{crcFrom, crc32, allOnes};
+ghost use Rattle.crc32_rules.specs.Power.{unit};
 
 // From this length on, four lanes and the joins cost less than one lane.
-const LONG: usize = 1024;
+const LONG: usize = 128;
 
 // The state before the first byte.
 pub fn start() -> u32
@@ -32,11 +35,12 @@ pub fn finish(state: u32) -> u32
     state ^ 0xFFFFFFFF
 }
 
-// The state after two pieces: `a` after the first, and `b` after the second, of n bytes, from 0.
-fn join(a: u32, b: u32, n: u64) -> u32
-    ensures { λ r. ⌜ ((xs : List ℕ) → length xs ≡ n → b ≡ crcFrom 0 xs → r ≡ crcFrom a xs) ⌝ }
+// The state after two pieces: `a` after the first, and `b` after the second, from 0. The power stands for
+// as many zero bytes as the second has.
+fn join(a: u32, b: u32, power: u32) -> u32
+    ensures { λ r. ⌜ ((xs : List ℕ) → power ≡ crcFrom unit (replicate (length xs) 0) → b ≡ crcFrom 0 xs → r ≡ crcFrom a xs) ⌝ }
 {
-    update_zeros(a, n) ^ b
+    carry(a, power) ^ b
 }
 
 // The state after the bytes of a slice, its four quarters side by side.
@@ -54,8 +58,8 @@ fn quarters(state: u32, src: &[u8]) -> u32
         &src[half..most],
         &src[most..whole],
     );
-    let n = part as u64;
-    let s = join(join(join(l.first, l.second, n), l.third, n), l.fourth, n);
+    let p = zeros_power(part as u64);
+    let s = join(join(join(l.first, l.second, p), l.third, p), l.fourth, p);
     serial(s, &src[whole..])
 }
 

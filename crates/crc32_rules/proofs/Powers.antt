@@ -62,6 +62,15 @@ times-steps k b h =
     ∙ horner-steps k 32 b 0 unit
     ∙ ap (steps k) (by-unit 32 0 31 b 0 h (zero-lt-suc 0) refl ∙ add-zero (b * 1) ∙ mul-one b)
 
+horner-none : (n a : ℕ) → horner n 0 0 a ≡ 0
+unfolding horner bit
+horner-none zero a = refl
+horner-none (suc n) a = ap (λ (x : ℕ). horner n 0 (bitXor x 0) a) (zero-mul a) ∙ horner-none n a
+
+-- nothing times a power is nothing
+pub times-none : (a : ℕ) → times 0 a ≡ 0
+times-none a = horner-none 32 a
+
 -- ---- doubling
 
 twice : (e c s : ℕ) → bitXor (steps e (bitXor (steps e s) c)) c ≡ bitXor (steps (e + e) s) (bitXor (steps e c) c)
@@ -101,14 +110,14 @@ pub record Now (whole state p c m : ℕ) : Type 0 where
   pub power-fits : p < 2 ^ 32
   pub add-fits : c < 2 ^ 32
 
--- a turn: the power p′ and the product c′ that it works out
-module _ {whole state p c m : ℕ} (now : Now whole state p c m) (p′ c′ : ℕ) (hp : p′ < 2 ^ 32) (hc : c′ < 2 ^ 32) (ep : p′ ≡ times p p) (ec : c′ ≡ times c p) where
+-- a turn: the power p′ and the sum c′ that it works out
+module _ {whole state p c m : ℕ} (now : Now whole state p c m) (p′ c′ : ℕ) (hp : p′ < 2 ^ 32) (hc : c′ < 2 ^ 32) (ep : p′ ≡ times p p) (ec : c′ ≡ bitXor (times c p) c) where
   by-power : (b r : ℕ) → b < 2 ^ 32 → r ≡ times b p → r ≡ steps (now .exponent) b
   by-power b r h e = e ∙ ap (times b) (now .power) ∙ times-steps (now .exponent) b h
 
   turn : (next : ℕ) → next < 2 ^ 32
       → rounds (now .exponent) c m state ≡ rounds (now .exponent + now .exponent) (bitXor (steps (now .exponent) c) c) (m / 2) next
-      → Now whole next p′ (bitXor c′ c) (m / 2)
+      → Now whole next p′ c′ (m / 2)
   turn next hn e = record {
     exponent = now .exponent + now .exponent;
     power =
@@ -117,18 +126,17 @@ module _ {whole state p c m : ℕ} (now : Now whole state p c m) (p′ c′ : �
         ∙ sym (steps-add (now .exponent) (now .exponent) unit);
     left =
         now .left ∙ e
-        ∙ ap (λ (x : ℕ). rounds (now .exponent + now .exponent) (bitXor x c) (m / 2) next)
-        (sym (by-power c c′ (now .add-fits) ec));
+        ∙ ap (λ (x : ℕ). rounds (now .exponent + now .exponent) x (m / 2) next)
+        (sym (ec ∙ ap (λ (x : ℕ). bitXor x c) (by-power c (times c p) (now .add-fits) refl)));
     state-fits = hn;
     power-fits = hp;
-    add-fits = xor-lt 32 c′ c hc (now .add-fits);
+    add-fits = hc;
   }
 
-  pub even-turn : m % 2 ≡ 0 → Now whole state p′ (bitXor c′ c) (m / 2)
+  pub even-turn : m % 2 ≡ 0 → Now whole state p′ c′ (m / 2)
   even-turn h = turn state (now .state-fits) (even (now .exponent) c m state h)
 
-  pub odd-turn : (t : ℕ) → t < 2 ^ 32 → t ≡ times state p → m % 2 ≡ 1
-      → Now whole (bitXor t c) p′ (bitXor c′ c) (m / 2)
+  pub odd-turn : (t : ℕ) → t < 2 ^ 32 → t ≡ times state p → m % 2 ≡ 1 → Now whole (bitXor t c) p′ c′ (m / 2)
   odd-turn t ht et h =
       turn (bitXor t c) (xor-lt 32 t c ht (now .add-fits))
       (odd (now .exponent) c m state h

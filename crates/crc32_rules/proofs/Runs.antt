@@ -10,9 +10,10 @@ use lib.ListN.{replicate}
 use lib.Pow.{pow-add}
 use Rattle.fields_rules.specs.Number.{bytes}
 use Rattle.crc32_rules.specs.Crc.{steps, byteStep, crcFrom}
-use Rattle.crc32_rules.specs.Power.{repeated, rounds}
+use Rattle.crc32_rules.specs.Power.{repeated, unit, times, rounds}
 use Rattle.crc32_rules.proofs.Xor.{xor-assoc}
 use Rattle.crc32_rules.proofs.Linear.{steps-xor, steps-add, steps-split}
+use Rattle.crc32_rules.proofs.Powers.{times-steps}
 use Rattle.crc32_rules.proofs.Laws.{crc-append}
 
 -- n zero bytes: n times eight steps
@@ -22,6 +23,20 @@ zero-runs zero s = refl
 zero-runs (suc n) s =
     zero-runs n (byteStep s 0)
     ∙ ap (rounds 8 0 n) (ap (steps 8) (xor-zero-r s) ∙ sym (xor-zero-r (steps 8 s)))
+
+-- and so eight times as many steps
+zero-steps : (n s : ℕ) → crcFrom s (replicate n 0) ≡ steps (n * 8) s
+unfolding crcFrom byteStep steps
+zero-steps zero s = refl
+zero-steps (suc n) s =
+    let e : suc n * 8 ≡ 8 + n * 8 = omega arith in
+    zero-steps n (byteStep s 0)
+    ∙ ap (λ (x : ℕ). steps (n * 8) (steps 8 x)) (xor-zero-r s)
+    ∙ sym (ap (λ (k : ℕ). steps k s) e ∙ steps-add 8 (n * 8) s)
+
+-- a state is carried over n zero bytes by one product with what they make of one
+pub zeros-times : (n s p : ℕ) → s < 2 ^ 32 → p ≡ crcFrom unit (replicate n 0) → times s p ≡ crcFrom s (replicate n 0)
+zeros-times n s p h e = ap (times s) (e ∙ zero-steps n unit) ∙ times-steps (n * 8) s h ∙ sym (zero-steps n s)
 
 -- the low byte of a number goes in, the others move down
 low-byte : (s v : ℕ) → steps 8 (bitXor s v) ≡ bitXor (byteStep s (v % 256)) (v / 256)

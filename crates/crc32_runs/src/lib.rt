@@ -3,8 +3,9 @@
 // n steps of the state are its product by the n-th power of x, and the powers come by squaring.
 ghost use mathlib.Core.Path.{_≡_};
 ghost use Prim.Native.Nat.{ℕ, _*_, _%_};
-ghost use Rattle.crc32_rules.specs.Crc.{bit, steps, crcFrom};
+ghost use lib.Bits.{bitXor};
 ghost use lib.ListN.{replicate};
+ghost use Rattle.crc32_rules.specs.Crc.{bit, steps, crcFrom};
 ghost use Rattle.fields_rules.specs.Number.{bytes};
 ghost use Rattle.crc32_rules.specs.Power.{unit, times, rounds, repeated};
 
@@ -40,6 +41,16 @@ fn product(b: u32, a: u32) -> u32
     acc
 }
 
+// What two rounds add where one adds `c`; nothing is worked out where that is 0.
+fn added(c: u32, power: u32) -> u32
+    ensures { λ r. ⌜ r ≡ bitXor (times c power) c ⌝ }
+{
+    if c == 0 {
+        return 0;
+    }
+    product(c, power) ^ c
+}
+
 // n times: the state is multiplied by `power`, and `add` is added. Where `power` is x to the power
 // e, that is e one-bit steps.
 fn run(state: u32, power: u32, add: u32, n: u64) -> u32
@@ -53,7 +64,7 @@ fn run(state: u32, power: u32, add: u32, n: u64) -> u32
         if m % 2 == 1 {
             s = product(s, p) ^ c;
         }
-        c = product(c, p) ^ c;
+        c = added(c, p);
         p = product(p, p);
         m = m / 2;
     }
@@ -65,6 +76,20 @@ pub fn update_zeros(state: u32, n: u64) -> u32
     ensures { λ r. ⌜ r ≡ crcFrom state (replicate n 0) ⌝ }
 {
     run(state, BYTE, 0, n)
+}
+
+// What n zero bytes make of one: x to the power 8 n.
+pub fn zeros_power(n: u64) -> u32
+    ensures { λ r. ⌜ r ≡ crcFrom unit (replicate n 0) ⌝ }
+{
+    update_zeros(0x80000000, n)
+}
+
+// The state after as many zero bytes as a power stands for.
+pub fn carry(state: u32, power: u32) -> u32
+    ensures { λ r. ⌜ ((n : ℕ) → power ≡ crcFrom unit (replicate n 0) → r ≡ crcFrom state (replicate n 0)) ⌝ }
+{
+    product(state, power)
 }
 
 // The state after n times the four bytes of a word, low byte first.

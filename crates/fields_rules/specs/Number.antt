@@ -1,7 +1,7 @@
 -- Fields of a few bytes, low byte first, in a list of bytes.
 -- Assumes nothing.
 use mathlib.Core.Bool.{cond}
-use mathlib.Core.List.{List, [], _∷_}
+use mathlib.Core.List.{List, [], _∷_, _++_}
 use Prim.Native.Nat.{ℕ, zero, suc, _+_, _*_, _/_, _%_, _<_}
 use lib.Dec.{leb}
 use lib.ListN.{getD, length}
@@ -16,6 +16,11 @@ numberAt s at (suc w) = getD s at 0 + 256 * numberAt s (suc at) w
 abbrev pub bytes : ℕ → ℕ → List ℕ
 bytes zero v = []
 bytes (suc w) v = v % 256 ∷ bytes w (v / 256)
+
+-- fields one after the other, each a width and a value
+unfoldable pub packed : List (ℕ × ℕ) → List ℕ
+packed [] = []
+packed (f ∷ fs) = bytes (f .0) (f .1) ++ packed fs
 
 -- a list of bytes: each number is below 256
 abbrev pub Bytes : List ℕ → Type 0

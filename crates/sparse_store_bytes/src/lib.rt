@@ -1,7 +1,7 @@
 // The raw and the fill writer: each fills the part of a partition that it is lent, whatever its length. A byte past the end
 // of the image counts as 0.
 ghost use mathlib.Core.Path.{_≡_};
-ghost use Prim.Native.Nat.{_+_, _%_, _≤_};
+ghost use Prim.Native.Nat.{ℕ, _+_, min, _≤_, _<_};
 ghost use lib.ListN.{length, getD};
 ghost use Rattle.sparse_rules.specs.Cells.{tab, rawByte, fillByte};
 
@@ -49,23 +49,23 @@ pub fn put_raw(part: &mut [u8], image: &[u8], at: usize)
     }
 }
 
-// The 4 bytes at a place, all of which the image holds, repeated over a part in fours.
-fn repeat(part: &mut [u8], image: &[u8], at: usize)
-    requires { ⌜ (at + 4 ≤ length (now image)) × (length (now part) % 4 ≡ 0) ⌝ }
-    ensures { λ _. ⌜ now (part .exit) ≡ tab (fillByte (now (image .entry)) at) 0 (length (now (part .entry))) ⌝ }
+// How many of n bytes are among the first 16.
+fn among_first(n: usize) -> usize
+    ensures { λ r. ⌜ r ≡ min n 16 ⌝ }
 {
-    let a = image[at];
-    let b = image[at + 1];
-    let c = image[at + 2];
-    let d = image[at + 3];
+    if n < 16 { n } else { 16 }
+}
+
+// Each byte past the first 16 becomes the one 16 before it, many of them at a time.
+fn spread(part: &mut [u8])
+    ensures { λ _. ⌜ ((f : ℕ → ℕ) → ((k : ℕ) → k < 16 → k < length (now (part .entry)) → getD (now (part .entry)) k 0 ≡ f k)
+        → ((k : ℕ) → f (k + 16) ≡ f k) → now (part .exit) ≡ tab f 0 (length (now (part .entry)))) ⌝ }
+{
     let n = part.len();
-    let mut i: usize = 0;
+    let mut i: usize = 16;
     while i < n {
-        part[i] = a;
-        part[i + 1] = b;
-        part[i + 2] = c;
-        part[i + 3] = d;
-        i = i + 4;
+        part[i] = part[i - 16];
+        i = i + 1;
     }
 }
 
@@ -73,18 +73,11 @@ fn repeat(part: &mut [u8], image: &[u8], at: usize)
 pub fn put_fill(part: &mut [u8], image: &[u8], at: usize)
     ensures { λ _. ⌜ now (part .exit) ≡ tab (fillByte (now (image .entry)) at) 0 (length (now (part .entry))) ⌝ }
 {
-    let n = part.len();
-    if n % 4 == 0 {
-        if at <= image.len() {
-            if 4 <= image.len() - at {
-                repeat(part, image, at);
-                return;
-            }
-        }
-    }
+    let n = among_first(part.len());
     let mut i: usize = 0;
     while i < n {
         part[i] = byte(image, at, i % 4);
         i = i + 1;
     }
+    spread(part);
 }

@@ -6,9 +6,8 @@ ghost use Prim.Native.Nat.{_+_};
 ghost use lib.Dec.{ltb};
 ghost use lib.ListN.{length};
 ghost use Rattle.sparse_rules.specs.Answers.{answerOf};
-ghost use Rattle.sparse_stream_rules.specs.Steps.{opened};
-ghost use Rattle.sparse_stream_rules.specs.States.{begun, called, finishTests, lentFinishTests, answerNow};
-ghost use Rattle.sparse_stream_rules.specs.Passes.{judgeCall, storeCall, storeLeaves};
+ghost use Rattle.sparse_stream_rules.specs.States.{begun, answerNow};
+ghost use Rattle.sparse_stream_rules.specs.Passes.{judgeCall, storeCall, storeLeaves, judgeEnd, storeEnd};
 use sparse_rules::Cursor;
 use sparse_rules::Refusal;
 use sparse_rules::Verdict;
@@ -122,7 +121,7 @@ fn verdict(x: Pass) -> Verdict
 
 // The state of a pass that is finished.
 fn finish(x: Pass) -> Pass
-    ensures { λ r. ⌜ r ≡ called (finishTests x) x (opened x) ⌝ }
+    ensures { λ r. ⌜ r ≡ judgeEnd x ⌝ }
 {
     if 0 < x.refusal.number {
         return x;
@@ -135,7 +134,7 @@ fn finish(x: Pass) -> Pass
 
 // Finishes the judging pass.
 pub fn judge_finish(x: Pass) -> Finished
-    ensures { λ r. ⌜ (r .pass ≡ called (finishTests x) x (opened x)) × (answerOf (r .verdict) ≡ answerNow (r .pass)) ⌝ }
+    ensures { λ r. ⌜ (r .pass ≡ judgeEnd x) × (answerOf (r .verdict) ≡ answerNow (r .pass)) ⌝ }
 {
     let y = finish(x);
     let v = verdict(y);
@@ -147,7 +146,7 @@ pub fn judge_finish(x: Pass) -> Finished
 
 // Finishes the storing pass, which is lent the partition once more.
 pub fn store_finish(x: Pass, partition: &[u8]) -> Finished
-    ensures { λ r. ⌜ (r .pass ≡ called (lentFinishTests x (length (now (partition .entry)))) x (opened x)) × (answerOf (r .verdict) ≡ answerNow (r .pass)) ⌝ }
+    ensures { λ r. ⌜ (r .pass ≡ storeEnd x (length (now (partition .entry)))) × (answerOf (r .verdict) ≡ answerNow (r .pass)) ⌝ }
 {
     let y = finish_lent(x, partition.len() as u64);
     let v = verdict(y);
@@ -159,7 +158,7 @@ pub fn store_finish(x: Pass, partition: &[u8]) -> Finished
 
 // The state of a pass that is finished where so many bytes are lent.
 fn finish_lent(x: Pass, lent: u64) -> Pass
-    ensures { λ r. ⌜ r ≡ called (lentFinishTests x lent) x (opened x) ⌝ }
+    ensures { λ r. ⌜ r ≡ storeEnd x lent ⌝ }
 {
     if 0 < x.refusal.number {
         return x;

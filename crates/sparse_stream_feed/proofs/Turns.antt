@@ -8,20 +8,46 @@ use native.Mathlib.Omega.{arith}
 use lib.Dec.{leb, ltb, eqb}
 use lib.ListN.{length, getD, take, drop, length-drop}
 use lib.Seq.{sets, drop-cons, length-take-le}
-use borrow.Author.Tests.{ltb-true, ltb-false, lt-ltb, le-ltb, leb-true, leb-false, le-leb, lt-leb, eqb-true, eqb-false, eq-eqb, ne-eqb}
+use borrow.Author.Tests.{ltb-true, ltb-false, lt-ltb, le-ltb, leb-true, eqb-true, eqb-false, eq-eqb}
 use Rattle.crc32_rules.specs.Crc.{crcFrom}
 use Rattle.sparse_rules.specs.declared.Kind.{Kind}
 use Rattle.sparse_rules.specs.declared.Kind.the-variants.{Raw, Fill, DontCare, Unknown}
 use Rattle.sparse_stream_rules.specs.declared.Pass.{Pass}
 use Rattle.sparse_stream_rules.specs.State.{kindNow, dataBy, gap, inData, moved, keeping}
 use Rattle.sparse_stream_rules.specs.Steps.{settled, headed, gathered, chunkTaken, worded, fed}
-use Rattle.sparse_stream_rules.specs.Laid.{dataLaid, laidBy, stores}
+use Rattle.sparse_stream_rules.specs.Laid.{fillLaid, dataLaid, laidBy, stores}
 use Rattle.sparse_stream_lay.specs.Laid.{stretchLaid}
 use Rattle.sparse_stream_lay.specs.Laid as laid
-use Rattle.sparse_stream_feed.specs.Stretch.{stretchBy, headStretch, stretch, Turn}
-use Rattle.sparse_stream_rules.proofs.Stretches.{free-number, step-head, step-data, step-chunk, carried-data, fed-one, fed-pass, fed-raw, fed-header, data-after, data-before, data-there, stores-one, stores-pass, stores-raw, stores-header}
+use Rattle.sparse_stream_feed.specs.Stretch.{atOnce, stretchBy, headStretch, stretch, wordTaken, Turn}
+use Rattle.sparse_stream_rules.proofs.Stretches.{free-number, step-head, step-data, step-chunk, carried-data, fed-one, fed-pass, fed-raw, fed-header, fed-word, data-after, data-before, data-there, stores-one, stores-pass, stores-raw, stores-word, stores-header}
 
 -- ---- how many bytes a stretch takes
+
+module _ (here : Bool) (n rest : ℕ) (several : 1 < n) where
+  -- they are some, and no more than there are
+  once-size : 0 < rest → (0 < atOnce here n rest) × (atOnce here n rest ≤ rest)
+  once-size p = go here (leb n rest) refl
+    where
+      go : (y z : Bool) → leb n rest ≡ z → (0 < cond (y && z) n 1) × (cond (y && z) n 1 ≤ rest)
+      go true true e = (omega arith, leb-true n rest e)
+      go true false e = (omega arith, p)
+      go false z e = (omega arith, p)
+
+  -- those that are taken at once begin here
+  once-here : (m : ℕ) → m ≡ atOnce here n rest → m ≡ n → here ≡ true
+  once-here m e f = go here refl
+    where
+      go : (y : Bool) → here ≡ y → here ≡ true
+      go true h = h
+      go false h = let o : m ≡ 1 = e ∙ rw h in absurd (omega arith)
+
+  -- and any other is one
+  once-one : (m : ℕ) → m ≡ atOnce here n rest → (m ≡ n → ⊥) → m ≡ 1
+  once-one m e f = go (here && leb n rest) refl
+    where
+      go : (y : Bool) → (here && leb n rest) ≡ y → m ≡ 1
+      go true h = absurd (f (e ∙ rw h))
+      go false h = e ∙ rw h
 
 module _ (x : Pass) (rest : ℕ) where
   stretch-head : x .come .bytes < 28 → stretch x rest ≡ 1
@@ -32,21 +58,6 @@ module _ (x : Pass) (rest : ℕ) where
     stretch-chunk : x .walk .next .at ≤ x .come .bytes → stretch x rest ≡ headStretch x rest
     unfolding stretch
     stretch-chunk h = rw (le-ltb _ _ known, le-ltb _ _ h)
-
-    -- a chunk header that lies whole among the bytes
-    stretch-whole : x .come .bytes ≡ x .walk .next .at → 12 ≤ rest → stretch x rest ≡ 12
-    stretch-whole h l = stretch-chunk (omega arith) ∙ rw (eq-eqb _ _ h, le-leb _ _ l)
-
-    -- and one that does not
-    stretch-late : x .walk .next .at < x .come .bytes → stretch x rest ≡ 1
-    stretch-late h = stretch-chunk (omega arith) ∙ rw (ne-eqb (x .come .bytes) (x .walk .next .at) (λ e. omega arith))
-
-    stretch-short : x .walk .next .at ≤ x .come .bytes → rest < 12 → stretch x rest ≡ 1
-    stretch-short h l = stretch-chunk h ∙ go (eqb (x .come .bytes) (x .walk .next .at))
-      where
-        go : (y : Bool) → _≡_ {A = ℕ} (cond (y && leb 12 rest) 12 1) 1
-        go true = rw (lt-leb 12 rest l)
-        go false = refl
 
     module _ (h : x .come .bytes < x .walk .next .at) where
       stretch-pass : dataBy (kindNow x) x < gap x → stretch x rest ≡ min (gap x - dataBy (kindNow x) x) rest
@@ -61,20 +72,10 @@ module _ (x : Pass) (rest : ℕ) where
 pub stretch-is-head : (x : Pass) (rest : ℕ) → x .come .bytes < 28 → 1 ≡ stretch x rest
 stretch-is-head x rest h = sym (stretch-head x rest h)
 
--- a chunk header that lies whole in the piece
-pub stretch-is-whole : (x : Pass) (rest : ℕ) → 28 ≤ x .come .bytes → x .come .bytes ≡ x .walk .next .at → 12 ≤ rest → 12 ≡ stretch x rest
-stretch-is-whole x rest k h l = sym (stretch-whole x rest k h l)
-
--- one that is begun already
-pub stretch-is-late : (x : Pass) (rest : ℕ) → 28 ≤ x .come .bytes → x .walk .next .at ≤ x .come .bytes → (x .come .bytes ≡ x .walk .next .at → ⊥) → 1 ≡ stretch x rest
-stretch-is-late x rest k h n = sym (stretch-late x rest k (lt-of x h n))
-  where
-    lt-of : (x : Pass) → x .walk .next .at ≤ x .come .bytes → (x .come .bytes ≡ x .walk .next .at → ⊥) → x .walk .next .at < x .come .bytes
-    lt-of x h n = omega (arith, h, n)
-
--- one of which fewer bytes are there
-pub stretch-is-short : (x : Pass) (rest : ℕ) → 28 ≤ x .come .bytes → x .walk .next .at ≤ x .come .bytes → rest < 12 → 1 ≡ stretch x rest
-stretch-is-short x rest k h l = sym (stretch-short x rest k h l)
+-- a chunk header
+pub stretch-is-chunk : (x : Pass) (rest r : ℕ) → 28 ≤ x .come .bytes → x .walk .next .at ≤ x .come .bytes → r ≡ headStretch x rest
+    → r ≡ stretch x rest
+stretch-is-chunk x rest r k h e = e ∙ sym (stretch-chunk x rest k h)
 
 module _ (x : Pass) (rest : ℕ) (kind : Kind) (dat : ℕ) (ek : kind ≡ kindNow x) (ed : dat ≡ dataBy kind x) (known : 28 ≤ x .come .bytes) (h : x .come .bytes < x .walk .next .at) where
   data-now : dat ≡ dataBy (kindNow x) x
@@ -86,18 +87,11 @@ module _ (x : Pass) (rest : ℕ) (kind : Kind) (dat : ℕ) (ek : kind ≡ kindNo
       let q : dataBy (kindNow x) x < gap x = rw data-now at d in
       e ∙ rw data-now (sym (stretch-pass x rest known h q))
 
-  -- raw data
-  pub stretch-is-raw : (r : ℕ) → gap x ≤ dat → kind ≡ Raw → r ≡ min (gap x) rest → r ≡ stretch x rest
-  stretch-is-raw r d k e =
+  -- data, by their kind
+  pub stretch-is-data : (r : ℕ) (k : Kind) → gap x ≤ dat → kind ≡ k → r ≡ stretchBy k x rest → r ≡ stretch x rest
+  stretch-is-data r k d o e =
       let q : gap x ≤ dataBy (kindNow x) x = rw data-now at d in
-      let o : kindNow x ≡ Raw = sym ek ∙ k in
-      e ∙ sym (stretch-data x rest known h q ∙ rw o)
-
-  -- data of another kind
-  pub stretch-is-one : gap x ≤ dat → (stretchBy kind x rest ≡ 1) → 1 ≡ stretch x rest
-  stretch-is-one d e =
-      let q : gap x ≤ dataBy (kindNow x) x = rw data-now at d in
-      sym (stretch-data x rest known h q ∙ ap (λ (k : Kind). stretchBy k x rest) (sym ek) ∙ e)
+      e ∙ ap (λ (j : Kind). stretchBy j x rest) (sym o ∙ ek) ∙ sym (stretch-data x rest known h q)
 
 -- a stretch is not empty, and no longer than what there is
 sized : (x : Pass) (rest : ℕ) → 0 < rest → (0 < stretch x rest) × (stretch x rest ≤ rest)
@@ -108,7 +102,7 @@ sized x rest p = go (ltb (x .come .bytes) 28) refl
 
     by : (k : Kind) → 0 < gap x → (0 < stretchBy k x rest) × (stretchBy k x rest ≤ rest)
     by Raw g = least-one (gap x) rest g p
-    by Fill g = (omega arith, p)
+    by Fill g = once-size (eqb (gap x) 4) 4 rest (omega arith) p
     by DontCare g = (omega arith, p)
     by Unknown g = (omega arith, p)
 
@@ -116,14 +110,10 @@ sized x rest p = go (ltb (x .come .bytes) 28) refl
     dat k h true e = let d = ltb-true _ _ e in rw (stretch-pass x rest k h d) (least-one (gap x - dataBy (kindNow x) x) rest (omega arith) p)
     dat k h false e = let d = ltb-false _ _ e in rw (stretch-data x rest k h d) (by (kindNow x) (omega arith))
 
-    head : (y z : Bool) → leb 12 rest ≡ z → (0 < cond (y && z) 12 1) × (cond (y && z) 12 1 ≤ rest)
-    head true true e = (omega arith, leb-true 12 rest e)
-    head true false e = (omega arith, p)
-    head false z e = (omega arith, p)
-
     chunk : 28 ≤ x .come .bytes → (y : Bool) → ltb (x .come .bytes) (x .walk .next .at) ≡ y → (0 < stretch x rest) × (stretch x rest ≤ rest)
     chunk k true e = dat k (ltb-true _ _ e) (ltb (dataBy (kindNow x) x) (gap x)) refl
-    chunk k false e = rw (stretch-chunk x rest k (ltb-false _ _ e)) (head (eqb (x .come .bytes) (x .walk .next .at)) (leb 12 rest) refl)
+    chunk k false e =
+        rw (stretch-chunk x rest k (ltb-false _ _ e)) (once-size (eqb (x .come .bytes) (x .walk .next .at)) 12 rest (omega arith) p)
 
     go : (y : Bool) → ltb (x .come .bytes) 28 ≡ y → (0 < stretch x rest) × (stretch x rest ≤ rest)
     go true e = rw (stretch-head x rest (ltb-true _ _ e)) (omega arith, p)
@@ -177,27 +167,18 @@ module _ (x : Pass) (piece : List ℕ) (i m : ℕ) (t : Turn x piece i m) where
 
   module _ (known : 28 ≤ x .come .bytes) where
     module _ (h : x .walk .next .at ≤ x .come .bytes) where
+      -- how many bytes a chunk header's turn takes
+      head-size : m ≡ headStretch x (length piece - i)
+      head-size = t .size ∙ stretch-chunk x _ known h
+
       -- a chunk header that is read at once begins where the state stands
       whole-at : m ≡ 12 → x .come .bytes ≡ x .walk .next .at
-      whole-at e = go (eqb (x .come .bytes) (x .walk .next .at)) refl
-        where
-          go : (y : Bool) → eqb (x .come .bytes) (x .walk .next .at) ≡ y → x .come .bytes ≡ x .walk .next .at
-          go true f = eqb-true _ _ f
-          go false f =
-              let d : x .come .bytes ≡ x .walk .next .at → ⊥ = eqb-false _ _ f in
-              let n : m ≡ 1 = t .size ∙ stretch-late x _ known (omega (arith, h, d)) in
-              absurd (omega (arith, e, n))
+      whole-at e =
+          eqb-true _ _ (once-here (eqb (x .come .bytes) (x .walk .next .at)) 12 (length piece - i) (omega arith) m head-size e)
 
       -- and any other is taken byte by byte
       late-one : (m ≡ 12 → ⊥) → m ≡ 1
-      late-one e = go (eqb (x .come .bytes) (x .walk .next .at)) (leb 12 (length piece - i)) refl refl
-        where
-          go : (y z : Bool) → eqb (x .come .bytes) (x .walk .next .at) ≡ y → leb 12 (length piece - i) ≡ z → m ≡ 1
-          go true true f g = absurd (e (t .size ∙ stretch-whole x _ known (eqb-true _ _ f) (leb-true _ _ g)))
-          go true false f g = t .size ∙ stretch-short x _ known h (leb-false 12 (length piece - i) g)
-          go false z f g =
-              let d : x .come .bytes ≡ x .walk .next .at → ⊥ = eqb-false _ _ f in
-              t .size ∙ stretch-late x _ known (omega (arith, h, d))
+      late-one = once-one (eqb (x .come .bytes) (x .walk .next .at)) 12 (length piece - i) (omega arith) m head-size
 
       pub turn-gather : (m ≡ 12 → ⊥) → gathered x (getD piece i 0) ≡ fed x (take m (drop i piece))
       turn-gather e =
@@ -212,6 +193,19 @@ module _ (x : Pass) (piece : List ℕ) (i m : ℕ) (t : Turn x piece i m) where
           let f = fed-header x (take 12 (drop i piece)) (free-number x (t .free)) known h (omega (arith, l, z)) (omega (arith, l)) in
           rw e
           (sym (f ∙ ap₂ (λ (j n : ℕ). chunkTaken (moved (keeping x (record { file = x .kept .file; chunk = sets (x .kept .chunk) j (take 12 (drop i piece)); word = x .kept .word })) n (x .come .sum))) z l))
+
+    module _ (h : x .come .bytes < x .walk .next .at) (k : kindNow x ≡ Fill) (d : gap x ≤ dataBy (kindNow x) x) where
+      -- how many bytes a fill word's turn takes
+      word-size : m ≡ atOnce (eqb (gap x) 4) 4 (length piece - i)
+      word-size = t .size ∙ stretch-data x _ known h d ∙ rw k
+
+      -- a fill word that is taken at once begins where the state stands
+      word-at : m ≡ 4 → gap x ≡ 4
+      word-at e = eqb-true _ _ (once-here (eqb (gap x) 4) 4 (length piece - i) (omega arith) m word-size e)
+
+      -- and any other is taken byte by byte
+      word-one : (m ≡ 4 → ⊥) → m ≡ 1
+      word-one = once-one (eqb (gap x) 4) 4 (length piece - i) (omega arith) m word-size
 
     module _ (h : x .come .bytes < x .walk .next .at) (kind : Kind) (ek : kind ≡ kindNow x) (dat : ℕ) (ed : dat ≡ dataBy kind x) where
       now : dat ≡ dataBy (kindNow x) x
@@ -235,19 +229,41 @@ module _ (x : Pass) (piece : List ℕ) (i m : ℕ) (t : Turn x piece i m) where
             ap₂ (λ (n : ℕ) (r : List ℕ). settled (moved x n (crcFrom (x .come .sum) r))) (sym (w .size)) (w .is)
             ∙ sym (ap (fed x) (w .is) ∙ fed-raw x (getD piece i 0) (w .bs) (t .free) known o q (omega (arith, w .size)))
 
-        pub turn-fill : kind ≡ Fill → settled (worded x (getD piece i 0)) ≡ fed x (take m (drop i piece))
-        turn-fill k =
-            let q : gap x ≤ dataBy (kindNow x) x = rw now at d in
-            let o : kindNow x ≡ Fill = sym ek ∙ k in
-            let e : m ≡ 1 = t .size ∙ stretch-data x _ known h q ∙ rw o in
-            rw (one piece i m e (t .some))
-            (sym (fed-one x (getD piece i 0) ∙ step-data x (getD piece i 0) (t .free) known h ∙ carried-data x (getD piece i 0) q ∙ rw o))
+        module _ (k : kind ≡ Fill) where
+          -- the chunk is a fill
+          filling : kindNow x ≡ Fill
+          filling = sym ek ∙ k
+
+          -- and the next byte one of its word
+          near : gap x ≤ dataBy (kindNow x) x
+          near = rw now at d
+
+          -- which has four
+          pub word-near : gap x ≤ 4
+          word-near = rw filling at near
+
+          -- the whole word
+          pub turn-fill : m ≡ 4 → settled (wordTaken x (take 4 (drop i piece))) ≡ fed x (take m (drop i piece))
+          turn-fill e =
+              let at : gap x ≡ 4 = word-at h filling near e in
+              let l : length (take 4 (drop i piece)) ≡ 4 =
+              length-take-le 4 (drop i piece) (simp length-drop (omega (arith, e, turn-inside x piece i m t))) in
+              let f =
+              fed-word x (take 4 (drop i piece)) (free-number x (t .free)) known filling word-near (at ∙ sym l) (omega (arith, l))
+              in
+              let z : 4 - gap x ≡ 0 = omega (arith, at) in
+              rw e (sym (f ∙ rw (z, l)))
+
+          -- a byte of it
+          pub turn-word : (m ≡ 4 → ⊥) → settled (worded x (getD piece i 0)) ≡ fed x (take m (drop i piece))
+          turn-word e =
+              rw (one piece i m (word-one h filling near e) (t .some))
+              (sym
+              (fed-one x (getD piece i 0) ∙ step-data x (getD piece i 0) (t .free) known h ∙ carried-data x (getD piece i 0) near
+              ∙ rw filling))
 
         pub turn-kept : dataBy kind x ≡ 0 → {A : Type 0} → A
         turn-kept k = let z : gap x ≤ 0 = rw (ed, k) at d in absurd (omega arith)
-
-        pub word-near : kind ≡ Fill → gap x ≤ 4
-        word-near k = let z : dat ≡ 4 = ed ∙ rw k in omega arith
 
 -- ---- what a turn stores
 
@@ -276,17 +292,14 @@ module _ (x : Pass) (piece : List ℕ) (i m : ℕ) (t : Turn x piece i m) (p : L
   long = length-take-le m (drop i piece) (simp length-drop (omega (arith, turn-inside x piece i m t)))
 
   module _ (known : 28 ≤ x .come .bytes) where
-    lays-head : x .walk .next .at ≤ x .come .bytes → (y z : Bool) → eqb (x .come .bytes) (x .walk .next .at) ≡ y → leb 12 (length piece - i) ≡ z
+    lays-head : x .walk .next .at ≤ x .come .bytes → (y : Bool) → eqb m 12 ≡ y
         → stretchLaid x (take m (drop i piece)) p ≡ stores x (take m (drop i piece)) p
-    lays-head h true true e f =
-        let s : x .come .bytes ≡ x .walk .next .at = eqb-true _ _ e in
-        let n : m ≡ 12 = t .size ∙ stretch-whole x _ known s (leb-true _ _ f) in
+    lays-head h true e =
+        let n : m ≡ 12 = eqb-true _ _ e in
         none-lays x (take m (drop i piece)) p (data-after x h)
-        (stores-header x (take m (drop i piece)) p (free-number x (t .free)) known h (omega (arith, long, s, n)))
-    lays-head h true false e f = single (t .size ∙ stretch-short x _ known h (leb-false 12 (length piece - i) f))
-    lays-head h false z e f =
-        let d : x .come .bytes ≡ x .walk .next .at → ⊥ = eqb-false _ _ e in
-        single (t .size ∙ stretch-late x _ known (omega (arith, h, d)))
+        (stores-header x (take m (drop i piece)) p (free-number x (t .free)) known h
+        (omega (arith, long, whole-at x piece i m t known h n, n)))
+    lays-head h false e = single (late-one x piece i m t known h (eqb-false _ _ e))
 
     module _ (h : x .come .bytes < x .walk .next .at) where
       lays-pass : dataBy (kindNow x) x < gap x → stretchLaid x (take m (drop i piece)) p ≡ stores x (take m (drop i piece)) p
@@ -296,6 +309,20 @@ module _ (x : Pass) (piece : List ℕ) (i m : ℕ) (t : Turn x piece i m) (p : L
           none-lays x (take m (drop i piece)) p (data-before x d)
           (rw (w .is) (stores-pass x (getD piece i 0) (w .bs) p (t .free) known (omega (arith, w .size))))
 
+      -- a fill word
+      lays-word : kindNow x ≡ Fill → gap x ≤ dataBy (kindNow x) x → (y : Bool) → eqb m 4 ≡ y
+          → stretchLaid x (take m (drop i piece)) p ≡ stores x (take m (drop i piece)) p
+      unfolding stretchLaid fillLaid
+      lays-word k d true e =
+          let w = part piece i m (turn-some x piece i m t) (turn-inside x piece i m t) in
+          let l : suc (length (w .bs)) ≡ 4 = w .size ∙ eqb-true _ _ e in
+          let g : gap x ≡ 4 = word-at x piece i m t known h k d (eqb-true _ _ e) in
+          let z : 4 - gap x ≡ 0 = omega arith in
+          rw (w .is, data-there x (t .free) known h d, k, eq-eqb (suc (length (w .bs))) 4 l, eq-eqb (gap x) 4 g)
+          (sym
+          (stores-word x (getD piece i 0 ∷ w .bs) p (free-number x (t .free)) known k (omega arith) (g ∙ sym l) (omega arith) ∙ rw z))
+      lays-word k d false e = single (word-one x piece i m t known h k d (eqb-false _ _ e))
+
       lays-inside : (k : Kind) → kindNow x ≡ k → gap x ≤ dataBy (kindNow x) x → stretchLaid x (take m (drop i piece)) p ≡ stores x (take m (drop i piece)) p
       unfolding stretchLaid
       lays-inside Raw k d =
@@ -303,7 +330,7 @@ module _ (x : Pass) (piece : List ℕ) (i m : ℕ) (t : Turn x piece i m) (p : L
           let w = part piece i m (turn-some x piece i m t) (turn-inside x piece i m t) in
           rw (w .is, data-there x (t .free) known h d, k)
           (sym (stores-raw x (getD piece i 0) (w .bs) p (t .free) known k d (omega (arith, w .size))))
-      lays-inside Fill k d = single (t .size ∙ stretch-data x _ known h d ∙ rw k)
+      lays-inside Fill k d = lays-word k d (eqb m 4) refl
       lays-inside DontCare k d = single (t .size ∙ stretch-data x _ known h d ∙ rw k)
       lays-inside Unknown k d = single (t .size ∙ stretch-data x _ known h d ∙ rw k)
 
@@ -318,7 +345,7 @@ module _ (x : Pass) (piece : List ℕ) (i m : ℕ) (t : Turn x piece i m) (p : L
 
       chunk : 28 ≤ x .come .bytes → (y : Bool) → ltb (x .come .bytes) (x .walk .next .at) ≡ y → stretchLaid x (take m (drop i piece)) p ≡ stores x (take m (drop i piece)) p
       chunk k true e = dat k (ltb-true _ _ e) (ltb (dataBy (kindNow x) x) (gap x)) refl
-      chunk k false e = lays-head k (ltb-false _ _ e) (eqb (x .come .bytes) (x .walk .next .at)) (leb 12 (length piece - i)) refl refl
+      chunk k false e = lays-head k (ltb-false _ _ e) (eqb m 12) refl
 
       go : (y : Bool) → ltb (x .come .bytes) 28 ≡ y → stretchLaid x (take m (drop i piece)) p ≡ stores x (take m (drop i piece)) p
       go true e = single (t .size ∙ stretch-head x _ (ltb-true _ _ e))

@@ -6,6 +6,7 @@ ghost use lib.ListN.{length, take, drop};
 ghost use Rattle.crc32_rules.specs.Crc.{crcFrom};
 ghost use Rattle.sparse_stream_rules.specs.State.{gap, moved};
 ghost use Rattle.sparse_stream_rules.specs.Steps.{fillSum, wordKept, worded};
+ghost use Rattle.sparse_stream_feed.specs.Stretch.{wordTaken};
 use sparse_stream_rules::Come;
 use sparse_stream_rules::Pass;
 use sparse_stream_state::span_now;
@@ -55,6 +56,21 @@ pub(crate) fn take_word(x: Pass, b: u8) -> Pass
         return advance(y, 1, fill_sum(y));
     }
     advance(y, 1, x.come.sum)
+}
+
+// A fill word that stands at a place of the piece, taken at once.
+pub(crate) fn take_fill(x: Pass, piece: &[u8], i: usize) -> Pass
+    requires { ⌜ (x .come .bytes + 4 ≤ x .told .length) × (i + 4 ≤ length (now piece)) ⌝ }
+    ensures { λ r. ⌜ r ≡ wordTaken x (take 4 (drop i (now (piece .entry)))) ⌝ }
+{
+    let end = i + 4;
+    let mut word = x.kept.word;
+    fields_write::copy(&mut word, 0, &piece[i..end]);
+    let mut kept = x.kept;
+    kept.word = word;
+    let mut y = x;
+    y.kept = kept;
+    advance(y, 4, fill_sum(y))
 }
 
 // Raw data.

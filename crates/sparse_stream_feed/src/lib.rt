@@ -1,5 +1,5 @@
 // Bytes fed to a pass, a stretch at a time: bytes that are passed over and raw data as far as the piece has them, a chunk
-// header at once where it lies whole in the piece, and all others one by one. The piece is never copied.
+// header or a fill word at once where it lies whole in the piece, and all others one by one. The piece is never copied.
 mod data;
 mod heads;
 
@@ -10,8 +10,9 @@ ghost use lib.Dec.{leb};
 ghost use lib.ListN.{length, take, drop};
 ghost use Rattle.sparse_stream_rules.specs.Steps.{fed};
 ghost use Rattle.sparse_stream_rules.specs.Laid.{stores};
-ghost use Rattle.sparse_stream_feed.specs.Stretch.{stretch, Turn};
+ghost use Rattle.sparse_stream_feed.specs.Stretch.{atOnce, stretch, Turn};
 use data::advance;
+use data::take_fill;
 use data::take_raw;
 use data::take_word;
 use heads::gather;
@@ -25,6 +26,13 @@ use sparse_stream_state::is_stuck;
 use sparse_stream_state::kind_now;
 use sparse_stream_state::least;
 use sparse_stream_tests::settle;
+
+// How many bytes of so many are taken where n are wanted at once: these, if they begin here and lie whole among them.
+fn at_once(here: bool, n: usize, rest: usize) -> usize
+    ensures { λ r. ⌜ r ≡ atOnce here n rest ⌝ }
+{
+    if here & (n <= rest) { n } else { 1 }
+}
 
 // How many bytes of so many the next turn takes.
 fn next_stretch(x: Pass, rest: usize) -> usize
@@ -42,17 +50,12 @@ fn next_stretch(x: Pass, rest: usize) -> usize
         }
         match kind {
             Kind::Raw => return least(gap, rest),
-            Kind::Fill => return 1,
+            Kind::Fill => return at_once(gap == 4, 4, rest),
             Kind::DontCare => return 1,
             Kind::Unknown => return 1,
         }
     }
-    if x.come.bytes == x.walk.next.at {
-        if 12 <= rest {
-            return 12;
-        }
-    }
-    1
+    at_once(x.come.bytes == x.walk.next.at, 12, rest)
 }
 
 // A turn: so many bytes of a piece from a place on.
@@ -71,7 +74,12 @@ fn turn(x: Pass, piece: &[u8], i: usize, n: usize) -> Pass
         }
         match kind {
             Kind::Raw => return settle(take_raw(x, piece, i, n)),
-            Kind::Fill => return settle(take_word(x, b)),
+            Kind::Fill => {
+                if n == 4 {
+                    return settle(take_fill(x, piece, i));
+                }
+                return settle(take_word(x, b));
+            }
             Kind::DontCare => return settle(advance(x, n, x.come.sum)),
             Kind::Unknown => return settle(advance(x, n, x.come.sum)),
         }

@@ -1,32 +1,55 @@
 -- What a stretch of bytes stores, by what the code has found of the state.
 -- Assumes nothing.
 use mathlib.Core.Path.{_≡_, refl, sym, ap, _∙_}
-use mathlib.Core.Bool.{Bool, true, false, not}
+use mathlib.Core.Bool.{Bool, true, false, not, _&&_}
 use mathlib.Core.Option.{some}
-use mathlib.Core.List.{List, [], _∷_, map}
-use Prim.Native.Nat.{ℕ, _-_}
+use mathlib.Core.List.{List, [], _∷_, map, append-nil}
+use Prim.Native.Nat.{ℕ, _+_, _-_, _≤_}
 use native.Mathlib.Omega.{arith}
-use lib.ListN.{length, getD, set}
-use lib.Seq.{take-length}
-use borrow.Author.Tests.{eq-eqb, ne-eqb}
+use lib.Dec.{eqb}
+use lib.ListN.{length, getD, set, drop-of-length-le, length-map}
+use lib.Seq.{take-length, sets, sets-eq}
+use mir.Val.{Val}
+use denote.Laws.{Is}
+use denote.Struct.Laws as LL
+use borrow.Author.Tests.{eqb-true, eq-eqb, ne-eqb}
+use Rattle.rules.proofs.Tests.{both}
 use Rattle.sparse_rules.specs.declared.Kind.{Kind}
 use Rattle.sparse_rules.specs.declared.Kind.the-variants.{Raw, Fill, DontCare, Unknown}
 use Rattle.sparse_rules.specs.Cells.{cellsBy}
 use Rattle.sparse_rules.proofs.Cells.{cells-raw}
 use Rattle.sparse_store_rules.specs.Store.{laid}
 use Rattle.sparse_stream_rules.specs.declared.Pass.{Pass}
+use Rattle.sparse_stream_rules.proofs.Pass as P
+use Rattle.sparse_stream_rules.proofs.Pass.Laws as P′
+use Rattle.sparse_stream_rules.proofs.Kept as K
+use Rattle.sparse_stream_rules.proofs.Kept.Laws as K′
 use Rattle.sparse_stream_rules.specs.State.{kindNow, spanNow, endNow, gap, inData}
 use Rattle.sparse_stream_rules.specs.Steps.{wordKept}
 use Rattle.sparse_stream_rules.specs.Laid.{fillLaid}
-use Rattle.sparse_stream_lay.specs.Laid.{stretchBy, stretchLaid}
+use Rattle.sparse_stream_lay.specs.Laid.{fillBy, stretchBy, stretchLaid}
+
+-- a fill chunk by its word
+pub fill-laid : (x : Pass) (word p : List ℕ) (span end from : ℕ) → span ≡ spanNow x → end ≡ endNow x → from ≡ end - span
+    → laid from (cellsBy word Fill 0 span) p ≡ fillBy x word p
+fill-laid x word p span end from es ee ef = rw (ef, ee, es)
 
 -- the word of a fill chunk whose last byte comes
-pub word-laid : (x : Pass) (b : ℕ) (p : List ℕ) (span end from : ℕ) → gap x ≡ 1 → span ≡ spanNow x → end ≡ endNow x → from ≡ end - span
-    → laid from (cellsBy (set (x .kept .word) 3 b) Fill 0 span) p ≡ fillLaid (wordKept x b) p
+pub last-laid : (x : Pass) (b : ℕ) (p : List ℕ) → gap x ≡ 1 → fillBy x (set (x .kept .word) 3 b) p ≡ fillLaid (wordKept x b) p
 unfolding fillLaid
-word-laid x b p span end from g es ee ef =
-    let e : 4 - gap x ≡ 3 = omega arith in
-    rw (ef, ee, es, e)
+last-laid x b p g = let e : 4 - gap x ≡ 3 = omega arith in rw e
+
+-- the fill word of a state that a function is passed has four bytes
+pub word-four : (x : Pass) (vs : List Val) → Is P.the-row x vs → length (x .kept .word) ≡ 4
+word-four x vs is =
+    sym (length-map (x .kept .word) _)
+    ∙ LL.owed K.the-type K′.the-laws (x .kept) _ (LL.owed P.the-type P′.the-laws x vs is .1 .1 .1 .1 .0) .1 .1 .0 .1 .0 .1
+
+-- four bytes stored on a word of four are the word
+whole-word : (word bs : List ℕ) → length word ≡ 4 → length bs ≡ 4 → sets word 0 bs ≡ bs
+whole-word word bs w l =
+    let d : length word ≤ 0 + length bs = omega arith in
+    sets-eq bs word 0 (omega arith) ∙ rw (drop-of-length-le word d) (append-nil bs)
 
 -- the cells of raw data that are all of a list
 raw-all : (bs : List ℕ) → cellsBy bs Raw 0 (length bs) ≡ map some bs
@@ -69,13 +92,33 @@ module _ (x : Pass) (bs p : List ℕ) (n : length bs ≡ 0 → ⊥) {r : Bool} (
   lay-raw end from k ee ef =
       rw (raw-all bs) (inside x bs p (laid from (map some bs) p) n w (λ c cs e. rw (ef, ee, eg, ← ek, k, e)))
 
-  -- the last byte of a fill word
-  pub lay-word : (q : List ℕ) → kind ≡ Fill → room ≡ 1 → q ≡ fillLaid (wordKept x (getD bs 0 0)) p → q ≡ stretchLaid x bs p
-  lay-word q k g e = inside x bs p q n w (λ c cs h. e ∙ rw (← ek, k, eq-eqb (gap x) 1 (sym eg ∙ g), h))
+  module _ (k : kind ≡ Fill) where
+    -- a fill word whole
+    pub lay-whole : (q : List ℕ) → length (x .kept .word) ≡ 4 → (eqb (length bs) 4 && eqb room 4) ≡ true → q ≡ fillBy x bs p
+        → q ≡ stretchLaid x bs p
+    lay-whole q four f e =
+        inside x bs p q n w
+        (λ c cs h.
+        let g : (eqb (length (c ∷ cs)) 4 && eqb (gap x) 4) ≡ true = rw (h, eg) at f in
+        let l : length (c ∷ cs) ≡ 4 = eqb-true (length (c ∷ cs)) 4 (both (eqb (length (c ∷ cs)) 4) (eqb (gap x) 4) g .0) in
+        e ∙ rw (← ek, k, g, whole-word (x .kept .word) (c ∷ cs) four l, h))
 
-  -- an earlier one
-  pub lay-early : kind ≡ Fill → (room ≡ 1 → ⊥) → p ≡ stretchLaid x bs p
-  lay-early k g = inside x bs p p n w (λ c cs h. rw (← ek, k, ne-eqb (gap x) 1 (λ z. g (eg ∙ z))))
+    module _ (few : (eqb (length bs) 4 && eqb room 4) ≡ false) where
+      -- the last byte of one
+      pub lay-word : (q : List ℕ) → room ≡ 1 → q ≡ fillLaid (wordKept x (getD bs 0 0)) p → q ≡ stretchLaid x bs p
+      lay-word q g e =
+          inside x bs p q n w
+          (λ c cs h.
+          let o : (eqb (length (c ∷ cs)) 4 && eqb (gap x) 4) ≡ false = rw (h, eg) at few in
+          e ∙ rw (← ek, k, o, eq-eqb (gap x) 1 (sym eg ∙ g), h))
+
+      -- an earlier one
+      pub lay-early : (room ≡ 1 → ⊥) → p ≡ stretchLaid x bs p
+      lay-early g =
+          inside x bs p p n w
+          (λ c cs h.
+          let o : (eqb (length (c ∷ cs)) 4 && eqb (gap x) 4) ≡ false = rw (h, eg) at few in
+          rw (← ek, k, o, ne-eqb (gap x) 1 (λ z. g (eg ∙ z))))
 
   -- bytes of a chunk that is skipped
   pub lay-kept : kind ≡ DontCare → p ≡ stretchLaid x bs p

@@ -3,7 +3,7 @@ ghost use mathlib.Core.Path.{_≡_};
 ghost use Rattle.sparse_stream_rules.specs.State.{gap};
 ghost use Rattle.sparse_stream_rules.specs.Laid.{fillLaid};
 ghost use Rattle.sparse_stream_rules.specs.Steps.{wordKept};
-ghost use Rattle.sparse_stream_lay.specs.Laid.{stretchLaid};
+ghost use Rattle.sparse_stream_lay.specs.Laid.{fillBy, stretchLaid};
 use sparse_rules::Chunk;
 use sparse_rules::Kind;
 use sparse_store_chunk::store_chunk;
@@ -15,21 +15,28 @@ use sparse_stream_state::kind_now;
 use sparse_stream_state::less;
 use sparse_stream_state::span_now;
 
-// A fill chunk, whose word this byte completes.
-fn lay_fill(x: Pass, b: u8, partition: &mut [u8])
-    requires { ⌜ gap x ≡ 1 ⌝ }
-    ensures { λ _. ⌜ now (partition .exit) ≡ fillLaid (wordKept x b) (now (partition .entry)) ⌝ }
+// A fill chunk, whole, by its word.
+fn lay_fill(x: Pass, word: &[u8], partition: &mut [u8])
+    ensures { λ _. ⌜ now (partition .exit) ≡ fillBy x (now (word .entry)) (now (partition .entry)) ⌝ }
 {
     let span = span_now(x) as usize;
     let from = less(end_now(x) as usize, span);
-    let mut word = x.kept.word;
-    word[3] = b;
     let chunk = Chunk {
         kind: Kind::Fill,
         blocks: 0,
         body: 0,
     };
-    store_chunk(&word, partition, chunk, from, span);
+    store_chunk(word, partition, chunk, from, span);
+}
+
+// A fill chunk, whose word this byte completes.
+fn lay_last(x: Pass, b: u8, partition: &mut [u8])
+    requires { ⌜ gap x ≡ 1 ⌝ }
+    ensures { λ _. ⌜ now (partition .exit) ≡ fillLaid (wordKept x b) (now (partition .entry)) ⌝ }
+{
+    let mut word = x.kept.word;
+    word[3] = b;
+    lay_fill(x, &word, partition);
 }
 
 // What a stretch of bytes stores.
@@ -55,8 +62,10 @@ pub fn lay(x: Pass, bytes: &[u8], partition: &mut [u8])
             store_chunk(bytes, partition, chunk, less(end_now(x) as usize, gap), n);
         }
         Kind::Fill => {
-            if gap == 1 {
-                lay_fill(x, bytes[0], partition);
+            if (n == 4) & (gap == 4) {
+                lay_fill(x, bytes, partition);
+            } else if gap == 1 {
+                lay_last(x, bytes[0], partition);
             }
         }
         Kind::DontCare => {}

@@ -111,6 +111,7 @@ unfolding answerNow
 answer-refused x h = rw (lt-ltb _ _ h)
 
 -- and that of any other
-pub answer-counts : (x : Pass) (k : ℕ) → x .refusal .number ≤ 0 → k ≡ x .walk .next .first - x .walk .written → counts (x .walk .written) k ≡ answerNow x
+pub answer-counts : (x : Pass) (k : ℕ) → x .refusal .number ≤ 0 → k ≡ x .walk .next .first - x .walk .written
+    → counts (x .walk .written) k ≡ answerNow x
 unfolding answerNow
 answer-counts x k h e = rw (le-ltb _ _ h, e)

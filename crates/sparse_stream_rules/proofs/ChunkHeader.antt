@@ -42,7 +42,8 @@ abbrev numberBy : Header → ℕ → ℕ → ℕ → Kind → ℕ → ℕ → �
 numberBy h len at used k n z = first ((not (sizeRight h k n z), 8) ∷ (ltb len (at + z), 7) ∷ (ltb (h .total) (used + n), 9) ∷ [])
 
 -- a state's tests of a chunk header, by those numbers
-number-is : (y : Pass) → chunkNumber y ≡ numberBy (headOf y) (y .told .length) (y .walk .next .at) (y .walk .next .first) (kindNow y) (blocksNow y) (sizeNow y)
+number-is : (y : Pass)
+    → chunkNumber y ≡ numberBy (headOf y) (y .told .length) (y .walk .next .at) (y .walk .next .first) (kindNow y) (blocksNow y) (sizeNow y)
 unfolding chunkNumber
 number-is y = refl
 
@@ -73,7 +74,8 @@ head-sum s DontCare at n sum l = ap (crcFrom sum) (sym (zeroed-none n))
 head-sum s Unknown at n sum l = ap (crcFrom sum) (sym (zeroed-none n))
 
 -- nor is any of its cells, unless it is skipped
-head-over : (room : ℕ) (lay : List (Option ℕ) → List ℕ) (n₀ : ℕ) → Laying room lay n₀ → (s : List ℕ) (k : Kind) (at n : ℕ) (cs : List (Option ℕ)) → n₀ ≤ length cs → length s ≤ at → lay cs ≡ lay (cs ++ dueBy s k at n)
+head-over : (room : ℕ) (lay : List (Option ℕ) → List ℕ) (n₀ : ℕ) → Laying room lay n₀
+    → (s : List ℕ) (k : Kind) (at n : ℕ) (cs : List (Option ℕ)) → n₀ ≤ length cs → length s ≤ at → lay cs ≡ lay (cs ++ dueBy s k at n)
 unfolding dueBy cellsBy
 head-over room lay n₀ law s Raw at n cs m l = rw (raw-early s at n l, append-nil cs)
 head-over room lay n₀ law s Fill at n cs m l = rw (fill-early s at n (omega arith), append-nil cs)
@@ -110,23 +112,28 @@ module _ (len room : ℕ) (lay : List (Option ℕ) → List ℕ) (n₀ : ℕ) (h
           four = base .four;
         }
 
-    bytes-are : (i : ℕ) → i < 12 → x .walk .next .at + i < length (s ++ (b ∷ [])) → getD (set (x .kept .chunk) (x .come .bytes - x .walk .next .at) b) i 0 ≡ getD (s ++ (b ∷ [])) (x .walk .next .at + i) 0
+    bytes-are : (i : ℕ) → i < 12 → x .walk .next .at + i < length (s ++ (b ∷ []))
+        → getD (set (x .kept .chunk) (x .come .bytes - x .walk .next .at) b) i 0 ≡ getD (s ++ (b ∷ [])) (x .walk .next .at + i) 0
     bytes-are i m n =
-        kept-is (x .kept .chunk) s b (x .walk .next .at) i (x .come .bytes - x .walk .next .at) (omega (arith, base .came)) (a .here) (omega (arith, base .wide, base .came, a .near, a .here)) (a .bytes i m) (rw longer at n)
+        kept-is (x .kept .chunk) s b (x .walk .next .at) i (x .come .bytes - x .walk .next .at) (omega (arith, base .came)) (a .here)
+        (omega (arith, base .wide, base .came, a .near, a .here)) (a .bytes i m) (rw longer at n)
 
     -- the known fields have come
     module _ (last : length s + 1 ≡ x .walk .next .at + 12) where
-      agree : (t : List ℕ) (i : ℕ) → i < 12 → getD (set (x .kept .chunk) (x .come .bytes - x .walk .next .at) b) i 0 ≡ getD ((s ++ (b ∷ [])) ++ t) (x .walk .next .at + i) 0
+      agree : (t : List ℕ) (i : ℕ) → i < 12
+          → getD (set (x .kept .chunk) (x .come .bytes - x .walk .next .at) b) i 0 ≡ getD ((s ++ (b ∷ [])) ++ t) (x .walk .next .at + i) 0
       agree t i m =
           let n : x .walk .next .at + i < length (s ++ (b ∷ [])) = omega (arith, longer) in
           bytes-are i m n ∙ sym (List·getD-append (s ++ (b ∷ [])) t 0 (x .walk .next .at + i) n)
 
-      field : (t : List ℕ) (j w : ℕ) → j + w ≤ 12 → numberAt ((s ++ (b ∷ [])) ++ t) (x .walk .next .at + j) w ≡ numberAt (set (x .kept .chunk) (x .come .bytes - x .walk .next .at) b) j w
+      field : (t : List ℕ) (j w : ℕ) → j + w ≤ 12
+          → numberAt ((s ++ (b ∷ [])) ++ t) (x .walk .next .at + j) w ≡ numberAt (set (x .kept .chunk) (x .come .bytes - x .walk .next .at) b) j w
       field t j w l =
           sym (number-same (set (x .kept .chunk) (x .come .bytes - x .walk .next .at) b) ((s ++ (b ∷ [])) ++ t) j (x .walk .next .at + j) w
           (λ i m. let e : x .walk .next .at + j + i ≡ x .walk .next .at + (j + i) = omega arith in rw e (agree t (j + i) (omega arith))))
 
-      type-is : (t : List ℕ) → numberAt ((s ++ (b ∷ [])) ++ t) (x .walk .next .at) 2 ≡ numberAt (set (x .kept .chunk) (x .come .bytes - x .walk .next .at) b) 0 2
+      type-is : (t : List ℕ)
+          → numberAt ((s ++ (b ∷ [])) ++ t) (x .walk .next .at) 2 ≡ numberAt (set (x .kept .chunk) (x .come .bytes - x .walk .next .at) b) 0 2
       type-is t = let e : x .walk .next .at + 0 ≡ x .walk .next .at = omega arith in rw e at (field t 0 2 (omega arith))
 
       number-kept : (t : List ℕ) → first (chunkTests ((s ++ (b ∷ [])) ++ t) len h (cursor x)) ≡ chunkNumber (chunkKept x b)
@@ -143,15 +150,18 @@ module _ (len room : ℕ) (lay : List (Option ℕ) → List ℕ) (n₀ : ℕ) (h
           (moreKnown (chunkAt ((s ++ (b ∷ [])) ++ t) h (cursor x)) (knownFrom ((s ++ (b ∷ [])) ++ t) len h (x .walk .left - 1) (nextCursor ((s ++ (b ∷ [])) ++ t) (cursor x))))
       known-here t = from-step ((s ++ (b ∷ [])) ++ t) len h (x .walk .left) (cursor x) (a .left) (there t) ∙ rw (number-kept t)
 
-      refused : (n : ℕ) → chunkNumber (chunkKept x b) ≡ suc n → After len room lay n₀ h (stopOr (chunkNumber (chunkKept x b)) (x .walk .next .at) (chunkKept x b) (settled (chunkRead (chunkKept x b)))) (s ++ (b ∷ [])) q
+      refused : (n : ℕ) → chunkNumber (chunkKept x b) ≡ suc n
+          → After len room lay n₀ h (stopOr (chunkNumber (chunkKept x b)) (x .walk .next .at) (chunkKept x b) (settled (chunkRead (chunkKept x b)))) (s ++ (b ∷ [])) q
       refused n e =
-          stop-at len room lay n₀ h (chunkKept x b) (s ++ (b ∷ [])) q ks n (x .walk .next .at) _ kept complete (λ t. known-here t ∙ rw e) (rw e) (rw e)
+          stop-at len room lay n₀ h (chunkKept x b) (s ++ (b ∷ [])) q ks n (x .walk .next .at) _ kept complete (λ t. known-here t ∙ rw e)
+          (rw e) (rw e)
 
       -- the chunk
       abbrev k : Chunk
       k = record { kind = kindNow (chunkKept x b); blocks = blocksNow (chunkKept x b); body = x .walk .next .at + h .head }
 
-      chunk-is : (t : List ℕ) → chunkAt ((s ++ (b ∷ [])) ++ t) h (cursor x) ≡ record { kind = kindNow (chunkKept x b); blocks = blocksNow (chunkKept x b); body = x .walk .next .at + h .head }
+      chunk-is : (t : List ℕ)
+          → chunkAt ((s ++ (b ∷ [])) ++ t) h (cursor x) ≡ record { kind = kindNow (chunkKept x b); blocks = blocksNow (chunkKept x b); body = x .walk .next .at + h .head }
       unfolding chunkAt
       chunk-is t = rw (type-is t, field t 4 4 (omega arith))
 
@@ -177,7 +187,8 @@ module _ (len room : ℕ) (lay : List (Option ℕ) → List ℕ) (n₀ : ℕ) (h
         wrote =
             let e : written (ks ++ (k ∷ [])) ≡ x .walk .written + cond (writes (k .kind)) (k .blocks) 0 =
             written-append ks (k ∷ []) ∙ ap₂ (λ (l r : ℕ). l + r) (base .wrote) (written-cons k [] ∙ rw written-nil (omega arith)) in
-            let m : x .walk .written + cond (writes (k .kind)) (k .blocks) 0 < 2 ^ 32 = omega (arith, base .blocks, base .wrote, stored-most k, passes .within) in
+            let m : x .walk .written + cond (writes (k .kind)) (k .blocks) 0 < 2 ^ 32 =
+            omega (arith, base .blocks, base .wrote, stored-most k, passes .within) in
             e ∙ omega (arith, m)
 
         sum-is : skipSum (writes (k .kind)) (spanNow (chunkKept x b)) (x .come .sum) ≡ crcFrom allOnes (zeroed (dueFrom (s ++ (b ∷ [])) (h .block) (ks ++ (k ∷ []))))
@@ -185,17 +196,21 @@ module _ (len room : ℕ) (lay : List (Option ℕ) → List ℕ) (n₀ : ℕ) (h
             ap (λ (n : ℕ). skipSum (writes (k .kind)) n (x .come .sum)) span-is
             ∙ head-sum (s ++ (b ∷ [])) (k .kind) (k .body) (k .blocks * h .block) (x .come .sum) body-late
             ∙ ap (λ (n : ℕ). crcFrom n (zeroed (dueBy (s ++ (b ∷ [])) (k .kind) (k .body) (k .blocks * h .block)))) (kept .sum)
-            ∙ sym (crc-append allOnes (zeroed (dueFrom (s ++ (b ∷ [])) (h .block) ks)) (zeroed (dueBy (s ++ (b ∷ [])) (k .kind) (k .body) (k .blocks * h .block))))
-            ∙ ap (crcFrom allOnes) (sym (zeroed-append (dueFrom (s ++ (b ∷ [])) (h .block) ks) (dueBy (s ++ (b ∷ [])) (k .kind) (k .body) (k .blocks * h .block))))
+            ∙ sym
+            (crc-append allOnes (zeroed (dueFrom (s ++ (b ∷ [])) (h .block) ks)) (zeroed (dueBy (s ++ (b ∷ [])) (k .kind) (k .body) (k .blocks * h .block))))
+            ∙ ap (crcFrom allOnes)
+            (sym (zeroed-append (dueFrom (s ++ (b ∷ [])) (h .block) ks) (dueBy (s ++ (b ∷ [])) (k .kind) (k .body) (k .blocks * h .block))))
             ∙ ap (λ (r : List (Option ℕ)). crcFrom allOnes (zeroed r)) (sym dues)
 
         part-is : q ≡ lay (dueFrom (s ++ (b ∷ [])) (h .block) (ks ++ (k ∷ [])))
         part-is =
             kept .part
-            ∙ head-over room lay n₀ law (s ++ (b ∷ [])) (k .kind) (k .body) (k .blocks * h .block) (dueFrom (s ++ (b ∷ [])) (h .block) ks) (kept .late) body-late
+            ∙ head-over room lay n₀ law (s ++ (b ∷ [])) (k .kind) (k .body) (k .blocks * h .block) (dueFrom (s ++ (b ∷ [])) (h .block) ks)
+            (kept .late) body-late
             ∙ ap lay (sym dues)
 
-        rest-is : (t : List ℕ) → chunksKnown len room lay n₀ h ((s ++ (b ∷ [])) ++ t) ≡ moreAll (ks ++ (k ∷ [])) (knownFrom ((s ++ (b ∷ [])) ++ t) len h (x .walk .left - 1) (cursor (chunkRead (chunkKept x b))))
+        rest-is : (t : List ℕ)
+            → chunksKnown len room lay n₀ h ((s ++ (b ∷ [])) ++ t) ≡ moreAll (ks ++ (k ∷ [])) (knownFrom ((s ++ (b ∷ [])) ++ t) len h (x .walk .left - 1) (cursor (chunkRead (chunkKept x b))))
         rest-is t =
             kept .rest t
             ∙ ap (moreAll ks) (known-here t ∙ rw (none, chunk-is t, next-is t))
@@ -217,13 +232,17 @@ module _ (len room : ℕ) (lay : List (Option ℕ) → List ℕ) (n₀ : ℕ) (h
               inside = passes .inside;
               sum = sum-is;
               part = part-is;
-              late = rw dues (rw (length-append (dueFrom (s ++ (b ∷ [])) (h .block) ks) (dueBy (s ++ (b ∷ [])) (k .kind) (k .body) (k .blocks * h .block))) (omega (arith, kept .late)));
+              late =
+                  rw dues
+                  (rw (length-append (dueFrom (s ++ (b ∷ [])) (h .block) ks) (dueBy (s ++ (b ∷ [])) (k .kind) (k .body) (k .blocks * h .block))) (omega (arith, kept .late)));
               wide = kept .wide;
               four = base .four;
             }
 
         holds : k .body + dataBytes (k .kind) 1 (k .blocks * h .block) ≤ x .walk .next .at + sizeNow (chunkKept x b)
-        holds = omega (arith, size-holds h (k .kind) (k .blocks) (sizeNow (chunkKept x b)) (passes .right), data-one (k .kind) (k .blocks) (h .block))
+        holds =
+            omega
+            (arith, size-holds h (k .kind) (k .blocks) (sizeNow (chunkKept x b)) (passes .right), data-one (k .kind) (k .blocks) (h .block))
 
         taken : After len room lay n₀ h (settled (chunkRead (chunkKept x b))) (s ++ (b ∷ [])) q
         taken =
@@ -238,7 +257,9 @@ module _ (len room : ℕ) (lay : List (Option ℕ) → List ℕ) (n₀ : ℕ) (h
               size = refl;
               complete = complete;
               holds = holds;
-              exact = λ w. omega (arith, size-exact h (k .kind) (k .blocks) (sizeNow (chunkKept x b)) (passes .right) w, data-one (k .kind) (k .blocks) (h .block));
+              exact =
+                  λ w. omega
+                  (arith, size-exact h (k .kind) (k .blocks) (sizeNow (chunkKept x b)) (passes .right) w, data-one (k .kind) (k .blocks) (h .block));
               word = λ o j l n. absurd (omega (arith, body-late, n));
             }))
 
@@ -246,7 +267,8 @@ module _ (len room : ℕ) (lay : List (Option ℕ) → List ℕ) (n₀ : ℕ) (h
       unfolding chunkTaken
       last-byte = go (chunkNumber (chunkKept x b)) refl
         where
-          go : (n : ℕ) → chunkNumber (chunkKept x b) ≡ n → After len room lay n₀ h (stopOr (chunkNumber (chunkKept x b)) (x .walk .next .at) (chunkKept x b) (settled (chunkRead (chunkKept x b)))) (s ++ (b ∷ [])) q
+          go : (n : ℕ) → chunkNumber (chunkKept x b) ≡ n
+              → After len room lay n₀ h (stopOr (chunkNumber (chunkKept x b)) (x .walk .next .at) (chunkKept x b) (settled (chunkRead (chunkKept x b)))) (s ++ (b ∷ [])) q
           go zero e = rw e (taken e)
           go (suc n) e = refused n e
 
@@ -255,9 +277,11 @@ module _ (len room : ℕ) (lay : List (Option ℕ) → List ℕ) (n₀ : ℕ) (h
     header-step =
         let free : stuck x ≡ false = free-before x (base .number) (omega (arith, base .came, a .near)) in
         let here : x .walk .next .at ≤ x .come .bytes = omega (arith, base .came, a .here) in
-        rw (step-chunk x b free (omega (arith, base .came, base .long)) here, lays-none x b q (data-after x here)) (go (eqb (x .come .bytes - x .walk .next .at) 11) refl)
+        rw (step-chunk x b free (omega (arith, base .came, base .long)) here, lays-none x b q (data-after x here))
+        (go (eqb (x .come .bytes - x .walk .next .at) 11) refl)
       where
-        go : (z : Bool) → eqb (x .come .bytes - x .walk .next .at) 11 ≡ z → After len room lay n₀ h (takenIf (eqb (x .come .bytes - x .walk .next .at) 11) (chunkKept x b)) (s ++ (b ∷ [])) q
+        go : (z : Bool) → eqb (x .come .bytes - x .walk .next .at) 11 ≡ z
+            → After len room lay n₀ h (takenIf (eqb (x .come .bytes - x .walk .next .at) 11) (chunkKept x b)) (s ++ (b ∷ [])) q
         go true e =
             let n : x .come .bytes - x .walk .next .at ≡ 11 = eqb-true _ _ e in
             rw e (last-byte (omega (arith, base .came, a .here)))

@@ -45,7 +45,8 @@ unfolding dueBy
 fill-early s at n h = rw (lt-leb (at + 4) (length s) h)
 
 -- a byte of raw data
-pub raw-grows : (s : List ℕ) (b at n : ℕ) → at ≤ length s → length s < at + n → dueBy (s ++ (b ∷ [])) Raw at n ≡ dueBy s Raw at n ++ (some b ∷ [])
+pub raw-grows : (s : List ℕ) (b at n : ℕ) → at ≤ length s → length s < at + n
+    → dueBy (s ++ (b ∷ [])) Raw at n ≡ dueBy s Raw at n ++ (some b ∷ [])
 unfolding dueBy
 raw-grows s b at n p q =
     let m : ℕ = length s - at in
@@ -59,7 +60,8 @@ raw-grows s b at n p q =
     (raw-append (s ++ (b ∷ [])) at m 1 ∙ ap₂ (λ (x y : List (Option ℕ)). x ++ y) old (ap (λ (v : ℕ). some v ∷ []) new))
 
 -- the last byte of a fill word
-pub fill-whole : (s w : List ℕ) (at n : ℕ) → at + 4 ≤ length s → ((i : ℕ) → i < 4 → getD w i 0 ≡ getD s (at + i) 0) → dueBy s Fill at n ≡ cellsBy w Fill 0 n
+pub fill-whole : (s w : List ℕ) (at n : ℕ) → at + 4 ≤ length s → ((i : ℕ) → i < 4 → getD w i 0 ≡ getD s (at + i) 0)
+    → dueBy s Fill at n ≡ cellsBy w Fill 0 n
 unfolding cellsBy
 fill-whole s w at n h g =
     due-all s Fill at n h
@@ -71,12 +73,16 @@ fill-whole s w at n h g =
 pub due-append : (s : List ℕ) (b : ℕ) (ks ls : List Chunk) → dueFrom s b (ks ++ ls) ≡ dueFrom s b ks ++ dueFrom s b ls
 unfolding dueFrom
 due-append s b [] ls = refl
-due-append s b (k ∷ ks) ls = rw (due-append s b ks ls) (sym (append-assoc (dueBy s (k .kind) (k .body) (k .blocks * b)) (dueFrom s b ks) (dueFrom s b ls)))
+due-append s b (k ∷ ks) ls =
+    rw (due-append s b ks ls) (sym (append-assoc (dueBy s (k .kind) (k .body) (k .blocks * b)) (dueFrom s b ks) (dueFrom s b ls)))
 
 -- and of one chunk more
-pub due-one : (s : List ℕ) (b : ℕ) (ks : List Chunk) (k : Chunk) → dueFrom s b (ks ++ (k ∷ [])) ≡ dueFrom s b ks ++ dueBy s (k .kind) (k .body) (k .blocks * b)
+pub due-one : (s : List ℕ) (b : ℕ) (ks : List Chunk) (k : Chunk)
+    → dueFrom s b (ks ++ (k ∷ [])) ≡ dueFrom s b ks ++ dueBy s (k .kind) (k .body) (k .blocks * b)
 unfolding dueFrom
-due-one s b ks k = due-append s b ks (k ∷ []) ∙ ap (λ (r : List (Option ℕ)). dueFrom s b ks ++ r) (append-nil (dueBy s (k .kind) (k .body) (k .blocks * b)))
+due-one s b ks k =
+    due-append s b ks (k ∷ [])
+    ∙ ap (λ (r : List (Option ℕ)). dueFrom s b ks ++ r) (append-nil (dueBy s (k .kind) (k .body) (k .blocks * b)))
 
 -- data that have come stay, whatever comes after
 pub complete-stays : (s t : List ℕ) (b : ℕ) (ks : List Chunk) → Complete s b ks → Complete (s ++ t) b ks
@@ -84,7 +90,8 @@ complete-stays s t b [] c = tt
 complete-stays s t b (k ∷ ks) c = (simp length-append (omega (arith, c .0)), complete-stays s t b ks (c .1))
 
 -- one chunk more
-pub complete-one : (s : List ℕ) (b : ℕ) (ks : List Chunk) (k : Chunk) → Complete s b ks → k .body + dataBytes (k .kind) 1 (k .blocks * b) ≤ length s → Complete s b (ks ++ (k ∷ []))
+pub complete-one : (s : List ℕ) (b : ℕ) (ks : List Chunk) (k : Chunk) → Complete s b ks
+    → k .body + dataBytes (k .kind) 1 (k .blocks * b) ≤ length s → Complete s b (ks ++ (k ∷ []))
 complete-one s b [] k c h = (omega (arith, h, data-one (k .kind) (k .blocks) b), tt)
 complete-one s b (j ∷ ks) k c h = (c .0, complete-one s b ks k (c .1) h)
 
@@ -92,10 +99,14 @@ complete-one s b (j ∷ ks) k c h = (c .0, complete-one s b ks k (c .1) h)
 pub dues-stay : (s t : List ℕ) (b : ℕ) (ks : List Chunk) → Complete s b ks → dueFrom (s ++ t) b ks ≡ dueFrom s b ks
 unfolding dueFrom
 dues-stay s t b [] c = refl
-dues-stay s t b (k ∷ ks) c = ap₂ (λ (x y : List (Option ℕ)). x ++ y) (due-stays s t (k .kind) (k .body) (k .blocks * b) (omega (arith, c .0, data-one (k .kind) (k .blocks) b))) (dues-stay s t b ks (c .1))
+dues-stay s t b (k ∷ ks) c =
+    ap₂ (λ (x y : List (Option ℕ)). x ++ y)
+    (due-stays s t (k .kind) (k .body) (k .blocks * b) (omega (arith, c .0, data-one (k .kind) (k .blocks) b))) (dues-stay s t b ks (c .1))
 
 -- and is all that they give
 pub dues-all : (s : List ℕ) (b : ℕ) (ks : List Chunk) → Complete s b ks → dueFrom s b ks ≡ cells s b ks
 unfolding dueFrom cells cellsOf
 dues-all s b [] c = refl
-dues-all s b (k ∷ ks) c = ap₂ (λ (x y : List (Option ℕ)). x ++ y) (due-all s (k .kind) (k .body) (k .blocks * b) (omega (arith, c .0, data-one (k .kind) (k .blocks) b))) (dues-all s b ks (c .1))
+dues-all s b (k ∷ ks) c =
+    ap₂ (λ (x y : List (Option ℕ)). x ++ y)
+    (due-all s (k .kind) (k .body) (k .blocks * b) (omega (arith, c .0, data-one (k .kind) (k .blocks) b))) (dues-all s b ks (c .1))

@@ -50,7 +50,8 @@ since-lays room p n e =
       then = λ cs ds l.
           let m : List (Option ℕ) = replicate n none ++ drop n cs in
           let k : length (replicate n none ++ drop n cs) ≡ length cs = simp (length-append, length-replicate, length-drop) (omega arith) in
-          let o : over (replicate (length (replicate n none ++ drop n cs)) none ++ ds) (over (replicate n none ++ drop n cs) p) ≡ over ((replicate n none ++ drop n cs) ++ ds) p = over-then (replicate n none ++ drop n cs) ds p in
+          let o : over (replicate (length (replicate n none ++ drop n cs)) none ++ ds) (over (replicate n none ++ drop n cs) p) ≡ over ((replicate n none ++ drop n cs) ++ ds) p =
+          over-then (replicate n none ++ drop n cs) ds p in
           ap (λ (r : List (Option ℕ)). laid n r p) (drop-front n cs ds l)
           ∙ ap (λ (r : List (Option ℕ)). over r p) (sym (append-assoc (replicate n none) (drop n cs) ds))
           ∙ sym (rw k at o);
@@ -64,7 +65,8 @@ since-none n p cs h = ap (λ (r : List (Option ℕ)). laid n r p) (drop-of-lengt
 -- ---- the same state, over another partition
 
 module _ (len room : ℕ) (lay lay′ : List (Option ℕ) → List ℕ) (n₀ n : ℕ) where
-  rebase : (x : Pass) (s q : List ℕ) → length s ≤ len → n ≡ length (due s len room) → x .refusal .number ≡ 0 → Total len room lay n₀ x s q → Total len room lay′ n x s (lay′ (due s len room))
+  rebase : (x : Pass) (s q : List ℕ) → length s ≤ len → n ≡ length (due s len room) → x .refusal .number ≡ 0 → Total len room lay n₀ x s q
+      → Total len room lay′ n x s (lay′ (due s len room))
   rebase x s q l e z (opening o) =
       let d : due s len room ≡ [] = due-none len room lay n₀ x s q l (ap passed (opening-waits len room lay n₀ x s q l o)) in
       opening
@@ -100,10 +102,13 @@ module _ (len room : ℕ) (lay lay′ : List (Option ℕ) → List ℕ) (n₀ n 
     where
       place : (ks : List Chunk) → Place len room lay n₀ (c .h) x s ks → Place len room lay′ n (c .h) x s ks
       place ks (in-file i) = in-file (record { before = i .before; none = i .none; kind = i .kind })
-      place ks (at-header i) = at-header (record { here = i .here; near = i .near; left = i .left; fits = i .fits; bytes = i .bytes; complete = i .complete })
+      place ks (at-header i) =
+          at-header (record { here = i .here; near = i .near; left = i .left; fits = i .fits; bytes = i .bytes; complete = i .complete })
       place ks (in-chunk i) =
-          in-chunk (record { before = i .before; init = i .init; last = i .last; is = i .is; kind = i .kind; size = i .size; complete = i .complete; holds = i .holds; exact = i .exact; word = i .word })
-      place ks (at-end i) = at-end (record { here = i .here; end = i .end; left = i .left; full = i .full; checks = i .checks; complete = i .complete })
+          in-chunk
+          (record { before = i .before; init = i .init; last = i .last; is = i .is; kind = i .kind; size = i .size; complete = i .complete; holds = i .holds; exact = i .exact; word = i .word })
+      place ks (at-end i) =
+          at-end (record { here = i .here; end = i .end; left = i .left; full = i .full; checks = i .checks; complete = i .complete })
 
       go : After len room lay n₀ (c .h) x s q → After len room lay′ n (c .h) x s (lay′ (due s len room))
       go (stops ks t) = absurd (omega (arith, t .number))
@@ -159,13 +164,15 @@ module _ (len room : ℕ) where
 
   data Stood (x : Pass) : Past → Type 0 where
     stands : {s : List ℕ} → Free x s → Stood x (going s)
-    stood : {s : List ℕ} {n place : ℕ} → 0 < x .refusal .number → x .refusal .number ≡ n → x .refusal .place ≡ place → Stood x (given s n place)
+    stood : {s : List ℕ} {n place : ℕ} → 0 < x .refusal .number → x .refusal .number ≡ n → x .refusal .place ≡ place
+        → Stood x (given s n place)
 
   begun-free : Free (begun len room) []
   unfolding begun
   begun-free = record { roomy = refl; told = refl; came = refl; number = refl; fits = omega arith; small = λ i. omega arith; seat = new refl refl }
 
-  new-total : (n : ℕ) (p : List ℕ) (x : Pass) (s : List ℕ) → n ≤ 0 → x ≡ begun len room → s ≡ [] → Total len room (since n p) n (opened x) s p
+  new-total : (n : ℕ) (p : List ℕ) (x : Pass) (s : List ℕ) → n ≤ 0 → x ≡ begun len room → s ≡ []
+      → Total len room (since n p) n (opened x) s p
   new-total n p x s z ex es =
       let o : Total len room (since n p) n (opened (begun len room)) [] (since n p []) = starts len room (since n p) n z in
       let q : since n p [] ≡ p = since-none n p [] (omega arith) in
@@ -173,21 +180,27 @@ module _ (len room : ℕ) where
 
   module _ (x : Pass) (s : List ℕ) (f : Free x s) (c : List ℕ) (room-left : length s + length c ≤ len) (small : Bytes (s ++ c)) where
     -- over a partition that is lent with any bytes
-    lent-any : (p : List ℕ) → length p ≡ room → Total len room (since (length (due s len room)) p) (length (due s len room)) (fed (opened x) c) (s ++ c) (stores (opened x) c p)
+    lent-any : (p : List ℕ) → length p ≡ room
+        → Total len room (since (length (due s len room)) p) (length (due s len room)) (fed (opened x) c) (s ++ c) (stores (opened x) c p)
     lent-any p e = go (f .seat)
       where
-        go : Seat x s → Total len room (since (length (due s len room)) p) (length (due s len room)) (fed (opened x) c) (s ++ c) (stores (opened x) c p)
+        go : Seat x s
+            → Total len room (since (length (due s len room)) p) (length (due s len room)) (fed (opened x) c) (s ++ c) (stores (opened x) c p)
         go (new ex es) =
             let d : length (due s len room) ≡ 0 = rw es (ap length (due-empty len room)) in
-            let r : Total len room (since (length (due s len room)) p) (length (due s len room)) (opened x) s p = new-total (length (due s len room)) p x s (omega (arith, d)) ex es in
-            total len room (since (length (due s len room)) p) (length (due s len room)) (since-lays room p (length (due s len room)) e) c (opened x) s p r room-left small
+            let r : Total len room (since (length (due s len room)) p) (length (due s len room)) (opened x) s p =
+            new-total (length (due s len room)) p x s (omega (arith, d)) ex es in
+            total len room (since (length (due s len room)) p) (length (due s len room)) (since-lays room p (length (due s len room)) e) c
+            (opened x) s p r room-left small
         go (sits q t) =
             let k = tracked len room (blank room) (blank-length room) x s q t (f .number) in
             let o : opened x ≡ x = opened-same x (omega (arith, k .told, k .long)) in
             let b = rebase len room (onto (blank room)) (since (length (due s len room)) p) 0 (length (due s len room)) x s q (f .fits) refl (f .number) t in
-            let g : since (length (due s len room)) p (due s len room) ≡ p = since-none (length (due s len room)) p (due s len room) (omega arith) in
+            let g : since (length (due s len room)) p (due s len room) ≡ p =
+            since-none (length (due s len room)) p (due s len room) (omega arith) in
             let r : Total len room (since (length (due s len room)) p) (length (due s len room)) x s p = rw g at b in
-            rw o (total len room (since (length (due s len room)) p) (length (due s len room)) (since-lays room p (length (due s len room)) e) c x s p r room-left small)
+            rw o
+            (total len room (since (length (due s len room)) p) (length (due s len room)) (since-lays room p (length (due s len room)) e) c x s p r room-left small)
 
     -- the partition that the state itself is known by
     own : (q : List ℕ) × Total len room (onto (blank room)) 0 (fed (opened x) c) (s ++ c) q
@@ -196,7 +209,8 @@ module _ (len room : ℕ) where
         go : Seat x s → (q : List ℕ) × Total len room (onto (blank room)) 0 (fed (opened x) c) (s ++ c) q
         go (new ex es) = (
           stores (opened (begun len room)) c (blank room),
-          rw (ex, es) (total len room (onto (blank room)) 0 (onto-lays room (blank room) (blank-length room)) c (opened (begun len room)) [] (blank room) (starts len room (onto (blank room)) 0 (omega arith)) (rw es at room-left) (rw es at small)),
+          rw (ex, es)
+              (total len room (onto (blank room)) 0 (onto-lays room (blank room) (blank-length room)) c (opened (begun len room)) [] (blank room) (starts len room (onto (blank room)) 0 (omega arith)) (rw es at room-left) (rw es at small)),
         )
         go (sits q t) =
             let k = tracked len room (blank room) (blank-length room) x s q t (f .number) in
@@ -206,26 +220,33 @@ module _ (len room : ℕ) where
     joined : length (s ++ c) ≤ len
     joined = rw (length-append s c) room-left
 
+    -- a state that is not refused takes more bytes
+    still : fed (opened x) c .refusal .number ≡ 0 → Free (fed (opened x) c) (s ++ c)
+    still n =
+        let k = tracked len room (blank room) (blank-length room) (fed (opened x) c) (s ++ c) (own .0) (own .1) n in
+        record {
+          roomy = call-room x c ∙ f .roomy;
+          told = k .told;
+          came = k .came;
+          number = n;
+          fits = joined;
+          small = small;
+          seat = sits (own .0) (own .1);
+        }
+
     known-so : Says len room (s ++ c) (fed (opened x) c) → Stood (fed (opened x) c) (afterKnown (s ++ c) (known (s ++ c) len room))
     known-so (refusal ks n e) = rw e (stood n refl refl)
     known-so (more ks n l e) = rw e (stands (still n))
-      where
-        still : fed (opened x) c .refusal .number ≡ 0 → Free (fed (opened x) c) (s ++ c)
-        still n =
-            let k = tracked len room (blank room) (blank-length room) (fed (opened x) c) (s ++ c) (own .0) (own .1) n in
-            record { roomy = call-room x c ∙ f .roomy; told = k .told; came = k .came; number = n; fits = joined; small = small; seat = sits (own .0) (own .1) }
     known-so (done ks n l e w m) = rw e (stands (still n))
-      where
-        still : fed (opened x) c .refusal .number ≡ 0 → Free (fed (opened x) c) (s ++ c)
-        still n =
-            let k = tracked len room (blank room) (blank-length room) (fed (opened x) c) (s ++ c) (own .0) (own .1) n in
-            record { roomy = call-room x c ∙ f .roomy; told = k .told; came = k .came; number = n; fits = joined; small = small; seat = sits (own .0) (own .1) }
 
     taken-so : Stood (fed (opened x) c) (afterKnown (s ++ c) (known (s ++ c) len room))
     taken-so = known-so (says len room (onto (blank room)) 0 (fed (opened x) c) (s ++ c) (own .0) joined (own .1))
 
-    stored-so : (p : List ℕ) → length p ≡ room → stores (opened x) c p ≡ laid (length (due s len room)) (drop (length (due s len room)) (due (s ++ c) len room)) p
-    stored-so p e = stored len room (since (length (due s len room)) p) (length (due s len room)) (fed (opened x) c) (s ++ c) (stores (opened x) c p) joined (lent-any p e)
+    stored-so : (p : List ℕ) → length p ≡ room
+        → stores (opened x) c p ≡ laid (length (due s len room)) (drop (length (due s len room)) (due (s ++ c) len room)) p
+    stored-so p e =
+        stored len room (since (length (due s len room)) p) (length (due s len room)) (fed (opened x) c) (s ++ c) (stores (opened x) c p)
+        joined (lent-any p e)
 
   taken-known : (s : List ℕ) (v : Known) → taken (afterKnown s v) ≡ s
   taken-known s (stopped ks n place) = refl
@@ -234,17 +255,22 @@ module _ (len room : ℕ) where
 
   stays-put : (v w : Past) (p : List ℕ) → taken w ≡ taken v → p ≡ lays len room v w p
   unfolding lays
-  stays-put v w p e = sym (ap (λ (r : List ℕ). laid (length (due (taken v) len room)) (drop (length (due (taken v) len room)) (due r len room)) p) e ∙ since-none (length (due (taken v) len room)) p (due (taken v) len room) (omega arith))
+  stays-put v w p e =
+      sym
+      (ap (λ (r : List ℕ). laid (length (due (taken v) len room)) (drop (length (due (taken v) len room)) (due r len room)) p) e ∙ since-none (length (due (taken v) len room)) p (due (taken v) len room) (omega arith))
 
-  lays-by : (s u p : List ℕ) (w : Past) → taken w ≡ u → laid (length (due s len room)) (drop (length (due s len room)) (due u len room)) p ≡ lays len room (going s) w p
+  lays-by : (s u p : List ℕ) (w : Past) → taken w ≡ u
+      → laid (length (due s len room)) (drop (length (due s len room)) (due u len room)) p ≡ lays len room (going s) w p
   unfolding lays
   lays-by s u p w e = ap (λ (r : List ℕ). laid (length (due s len room)) (drop (length (due s len room)) (due r len room)) p) (sym e)
 
   -- the tests of a call, in the state's terms and in the pass's
-  tests-same : (x : Pass) (s c : List ℕ) (lent : ℕ) → Free x s → first (lentTests x lent (length c)) ≡ first (lentTest room lent ∷ overTest len s c ∷ [])
+  tests-same : (x : Pass) (s c : List ℕ) (lent : ℕ) → Free x s
+      → first (lentTests x lent (length c)) ≡ first (lentTest room lent ∷ overTest len s c ∷ [])
   tests-same x s c lent f = rw (f .roomy, f .told, f .came)
 
-  tests-none : (s c : List ℕ) (lent : ℕ) → first (lentTest room lent ∷ overTest len s c ∷ []) ≡ 0 → (lent ≡ room) × (length s + length c ≤ len)
+  tests-none : (s c : List ℕ) (lent : ℕ) → first (lentTest room lent ∷ overTest len s c ∷ []) ≡ 0
+      → (lent ≡ room) × (length s + length c ≤ len)
   tests-none s c lent e =
       let t = all-fail (lentTest room lent ∷ overTest len s c ∷ []) (tt, (tt, tt)) e in
       (eqb-true lent room (not-false _ (t .0)), ltb-false len (length s + length c) (t .1 .0))
@@ -254,24 +280,32 @@ module _ (len room : ℕ) where
     after : Stood y w
     left : q ≡ lays len room v w p
 
-  free-call : (x : Pass) (s c p : List ℕ) → Free x s → Bytes (s ++ c) → (m : ℕ) → first (lentTest room (length p) ∷ overTest len s c ∷ []) ≡ m
+  free-call : (x : Pass) (s c p : List ℕ) → Free x s → Bytes (s ++ c) → (m : ℕ)
+      → first (lentTest room (length p) ∷ overTest len s c ∷ []) ≡ m
       → Call x (storeCall x (length p) c) (going s) (storeBring len room (length p) (going s) c) p (storeLeaves x c p)
   unfolding bring
   free-call x s c p f small zero e =
       let t : first (lentTests x (length p) (length c)) ≡ 0 = tests-same x s c (length p) f ∙ e in
       let o = tests-none s c (length p) e in
       let z : x .refusal .number ≤ 0 = omega (arith, f .number) in
-      let a : fed (opened x) c ≡ storeCall x (length p) c = called-on (lentTests x (length p) (length c)) x z (fed (opened x) c) (fed (opened x) c) t refl in
-      let b : stores (opened x) c p ≡ storeLeaves x c p = leaves-on (lentTests x (length p) (length c)) x z p (stores (opened x) c p) (stores (opened x) c p) t refl in
+      let a : fed (opened x) c ≡ storeCall x (length p) c =
+      called-on (lentTests x (length p) (length c)) x z (fed (opened x) c) (fed (opened x) c) t refl in
+      let b : stores (opened x) c p ≡ storeLeaves x c p =
+      leaves-on (lentTests x (length p) (length c)) x z p (stores (opened x) c p) (stores (opened x) c p) t refl in
       let w : storeBring len room (length p) (going s) c ≡ afterKnown (s ++ c) (known (s ++ c) len room) = rw e in
       record {
         after = rw (← a, w) (taken-so x s f c (o .1) small);
-        left = sym b ∙ stored-so x s f c (o .1) small p (o .0) ∙ lays-by s (s ++ c) p (storeBring len room (length p) (going s) c) (ap taken w ∙ taken-known (s ++ c) (known (s ++ c) len room));
+        left =
+            sym b
+            ∙ stored-so x s f c (o .1) small p (o .0)
+            ∙ lays-by s (s ++ c) p (storeBring len room (length p) (going s) c)
+            (ap taken w ∙ taken-known (s ++ c) (known (s ++ c) len room));
       }
   free-call x s c p f small (suc m) e =
       let t : first (lentTests x (length p) (length c)) ≡ suc m = tests-same x s c (length p) f ∙ e in
       let z : x .refusal .number ≤ 0 = omega (arith, f .number) in
-      let a : stopOr (suc m) 0 x x ≡ storeCall x (length p) c = called-refused (lentTests x (length p) (length c)) x z (stopOr (suc m) 0 x x) (fed (opened x) c) m t refl in
+      let a : stopOr (suc m) 0 x x ≡ storeCall x (length p) c =
+      called-refused (lentTests x (length p) (length c)) x z (stopOr (suc m) 0 x x) (fed (opened x) c) m t refl in
       let b : p ≡ storeLeaves x c p = leaves-refused (lentTests x (length p) (length c)) x z p (stores (opened x) c p) m t in
       let w : storeBring len room (length p) (going s) c ≡ given s (suc m) 0 = rw e in
       record {
@@ -295,13 +329,17 @@ module _ (len room : ℕ) where
   small-join (x ∷ s) c f g zero = f zero
   small-join (x ∷ s) c f g (suc i) = small-join s c (λ j. f (suc j)) g i
 
-  one-call : (x : Pass) (v : Past) (c p : List ℕ) → Bytes c → Stood x v → Call x (storeCall x (length p) c) v (storeBring len room (length p) v c) p (storeLeaves x c p)
-  one-call x (going s) c p g (stands f) = free-call x s c p f (small-join s c (f .small) g) (first (lentTest room (length p) ∷ overTest len s c ∷ [])) refl
+  one-call : (x : Pass) (v : Past) (c p : List ℕ) → Bytes c → Stood x v
+      → Call x (storeCall x (length p) c) v (storeBring len room (length p) v c) p (storeLeaves x c p)
+  one-call x (going s) c p g (stands f) =
+      free-call x s c p f (small-join s c (f .small) g) (first (lentTest room (length p) ∷ overTest len s c ∷ [])) refl
   one-call x (given s n place) c p g (stood h en ep) = given-call x s c p n place h en ep
 
   calls : (cs : List (List ℕ × List ℕ)) (x : Pass) (v : Past) → AllBytes cs → Stood x v → Stood (stateAfter x cs) (pastAfter len room v cs)
   calls [] x v g s = s
-  calls (c ∷ cs) x v g s = calls cs (storeCall x (length (c .0)) (c .1)) (storeBring len room (length (c .0)) v (c .1)) (g .1) (one-call x v (c .1) (c .0) (g .0) s .after)
+  calls (c ∷ cs) x v g s =
+      calls cs (storeCall x (length (c .0)) (c .1)) (storeBring len room (length (c .0)) v (c .1)) (g .1)
+      (one-call x v (c .1) (c .0) (g .0) s .after)
 
   agree : (x : Pass) (v : Past) → Stood x v → Agrees x v
   agree x (going s) (stands f) = free (f .number)
@@ -328,14 +366,17 @@ module _ (len room : ℕ) where
   unfolding bring
   free-after ts us x s c f small t zero e =
       let z : x .refusal .number ≤ 0 = omega (arith, f .number) in
-      let a : fed (opened x) c ≡ called ts x (fed (opened x) c) = called-on ts x z (fed (opened x) c) (fed (opened x) c) (t .same ∙ e) refl in
+      let a : fed (opened x) c ≡ called ts x (fed (opened x) c) =
+      called-on ts x z (fed (opened x) c) (fed (opened x) c) (t .same ∙ e) refl in
       rw (← a, e) (taken-so x s f c (t .fits e) small)
   free-after ts us x s c f small t (suc m) e =
       let z : x .refusal .number ≤ 0 = omega (arith, f .number) in
-      let a : stopOr (suc m) 0 x x ≡ called ts x (fed (opened x) c) = called-refused ts x z (stopOr (suc m) 0 x x) (fed (opened x) c) m (t .same ∙ e) refl in
+      let a : stopOr (suc m) 0 x x ≡ called ts x (fed (opened x) c) =
+      called-refused ts x z (stopOr (suc m) 0 x x) (fed (opened x) c) m (t .same ∙ e) refl in
       rw (← a, e) (stood (omega arith) refl refl)
 
-  given-after : (ts us : List (Bool × ℕ)) (x : Pass) (s c : List ℕ) (n place : ℕ) → 0 < x .refusal .number → x .refusal .number ≡ n → x .refusal .place ≡ place
+  given-after : (ts us : List (Bool × ℕ)) (x : Pass) (s c : List ℕ) (n place : ℕ) → 0 < x .refusal .number → x .refusal .number ≡ n
+      → x .refusal .place ≡ place
       → Stood (called ts x (fed (opened x) c)) (bring len room us (given s n place) c)
   unfolding bring
   given-after ts us x s c n place h en ep = rw (← (called-again ts x (fed (opened x) c) h)) (stood h en ep)
@@ -351,13 +392,15 @@ module _ (len room : ℕ) where
         fits = λ e. let t = all-fail (overTest len s c ∷ []) (tt, tt) e in ltb-false len (length s + length c) (t .0);
       }
 
-  store-tests : (x : Pass) (s c : List ℕ) (lent : ℕ) → Free x s → Tests (lentTests x lent (length c)) (lentTest room lent ∷ overTest len s c ∷ []) x s c
+  store-tests : (x : Pass) (s c : List ℕ) (lent : ℕ) → Free x s
+      → Tests (lentTests x lent (length c)) (lentTest room lent ∷ overTest len s c ∷ []) x s c
   store-tests x s c lent f = record { same = tests-same x s c lent f; fits = λ e. tests-none s c lent e .1 }
 
   judge-end-tests : (x : Pass) (s : List ℕ) → Free x s → Tests (finishTests x) (shortTest len s ∷ []) x s []
   judge-end-tests x s f = record { same = rw (f .told, f .came); fits = λ e. omega (arith, f .fits) }
 
-  store-end-tests : (x : Pass) (s : List ℕ) (lent : ℕ) → Free x s → Tests (lentFinishTests x lent) (lentTest room lent ∷ shortTest len s ∷ []) x s []
+  store-end-tests : (x : Pass) (s : List ℕ) (lent : ℕ) → Free x s
+      → Tests (lentFinishTests x lent) (lentTest room lent ∷ shortTest len s ∷ []) x s []
   store-end-tests x s lent f = record { same = rw (f .roomy, f .told, f .came); fits = λ e. omega (arith, f .fits) }
 
   asked-bytes : Asked → Type 0
@@ -372,53 +415,73 @@ module _ (len room : ℕ) where
   -- any call
   asked : (a : Asked) (x : Pass) (v : Past) → asked-bytes a → Stood x v → Stood (stateBy x a) (pastBy len room v a)
   unfolding asked-bytes
-  asked (judge-piece c) x (going s) g (stands f) = free-after (pieceTests x (length c)) (overTest len s c ∷ []) x s c f (small-join s c (f .small) g) (judge-tests x s c f) (first (overTest len s c ∷ [])) refl
-  asked (judge-piece c) x (given s n place) g (stood h en ep) = given-after (pieceTests x (length c)) (overTest len s c ∷ []) x s c n place h en ep
+  asked (judge-piece c) x (going s) g (stands f) =
+      free-after (pieceTests x (length c)) (overTest len s c ∷ []) x s c f (small-join s c (f .small) g) (judge-tests x s c f)
+      (first (overTest len s c ∷ [])) refl
+  asked (judge-piece c) x (given s n place) g (stood h en ep) =
+      given-after (pieceTests x (length c)) (overTest len s c ∷ []) x s c n place h en ep
   asked judge-end x (going s) g (stands f) =
-      rw (fed-none (opened x)) at (free-after (finishTests x) (shortTest len s ∷ []) x s [] f (none-small s (f .small)) (judge-end-tests x s f) (first (shortTest len s ∷ [])) refl)
-  asked judge-end x (given s n place) g (stood h en ep) = rw (fed-none (opened x)) at (given-after (finishTests x) (shortTest len s ∷ []) x s [] n place h en ep)
+      rw (fed-none (opened x)) at
+      (free-after (finishTests x) (shortTest len s ∷ []) x s [] f (none-small s (f .small)) (judge-end-tests x s f) (first (shortTest len s ∷ [])) refl)
+  asked judge-end x (given s n place) g (stood h en ep) =
+      rw (fed-none (opened x)) at (given-after (finishTests x) (shortTest len s ∷ []) x s [] n place h en ep)
   asked (store-piece lent c) x (going s) g (stands f) =
-      free-after (lentTests x lent (length c)) (lentTest room lent ∷ overTest len s c ∷ []) x s c f (small-join s c (f .small) g) (store-tests x s c lent f) (first (lentTest room lent ∷ overTest len s c ∷ [])) refl
-  asked (store-piece lent c) x (given s n place) g (stood h en ep) = given-after (lentTests x lent (length c)) (lentTest room lent ∷ overTest len s c ∷ []) x s c n place h en ep
+      free-after (lentTests x lent (length c)) (lentTest room lent ∷ overTest len s c ∷ []) x s c f (small-join s c (f .small) g)
+      (store-tests x s c lent f) (first (lentTest room lent ∷ overTest len s c ∷ [])) refl
+  asked (store-piece lent c) x (given s n place) g (stood h en ep) =
+      given-after (lentTests x lent (length c)) (lentTest room lent ∷ overTest len s c ∷ []) x s c n place h en ep
   asked (store-end lent) x (going s) g (stands f) =
-      rw (fed-none (opened x)) at (free-after (lentFinishTests x lent) (lentTest room lent ∷ shortTest len s ∷ []) x s [] f (none-small s (f .small)) (store-end-tests x s lent f) (first (lentTest room lent ∷ shortTest len s ∷ [])) refl)
-  asked (store-end lent) x (given s n place) g (stood h en ep) = rw (fed-none (opened x)) at (given-after (lentFinishTests x lent) (lentTest room lent ∷ shortTest len s ∷ []) x s [] n place h en ep)
+      rw (fed-none (opened x)) at
+      (free-after (lentFinishTests x lent) (lentTest room lent ∷ shortTest len s ∷ []) x s [] f (none-small s (f .small)) (store-end-tests x s lent f) (first (lentTest room lent ∷ shortTest len s ∷ [])) refl)
+  asked (store-end lent) x (given s n place) g (stood h en ep) =
+      rw (fed-none (opened x)) at (given-after (lentFinishTests x lent) (lentTest room lent ∷ shortTest len s ∷ []) x s [] n place h en ep)
 
   all-asked : (qs : List Asked) (x : Pass) (v : Past) → AskedBytes qs → Stood x v → Stood (statesBy x qs) (pastsBy len room v qs)
   unfolding asked-bytes
   all-asked [] x v g s = s
-  all-asked (judge-piece c ∷ qs) x v g s = all-asked qs (stateBy x (judge-piece c)) (pastBy len room v (judge-piece c)) (g .1) (asked (judge-piece c) x v (g .0) s)
+  all-asked (judge-piece c ∷ qs) x v g s =
+      all-asked qs (stateBy x (judge-piece c)) (pastBy len room v (judge-piece c)) (g .1) (asked (judge-piece c) x v (g .0) s)
   all-asked (judge-end ∷ qs) x v g s = all-asked qs (stateBy x judge-end) (pastBy len room v judge-end) g (asked judge-end x v tt s)
-  all-asked (store-piece lent c ∷ qs) x v g s = all-asked qs (stateBy x (store-piece lent c)) (pastBy len room v (store-piece lent c)) (g .1) (asked (store-piece lent c) x v (g .0) s)
-  all-asked (store-end lent ∷ qs) x v g s = all-asked qs (stateBy x (store-end lent)) (pastBy len room v (store-end lent)) g (asked (store-end lent) x v tt s)
+  all-asked (store-piece lent c ∷ qs) x v g s =
+      all-asked qs (stateBy x (store-piece lent c)) (pastBy len room v (store-piece lent c)) (g .1)
+      (asked (store-piece lent c) x v (g .0) s)
+  all-asked (store-end lent ∷ qs) x v g s =
+      all-asked qs (stateBy x (store-end lent)) (pastBy len room v (store-end lent)) g (asked (store-end lent) x v tt s)
 
   -- ---- finishing
 
-  answer-given : (x : Pass) (s : List ℕ) (n place : ℕ) → 0 < x .refusal .number → x .refusal .number ≡ n → x .refusal .place ≡ place → answerNow x ≡ finished len room (given s n place)
+  answer-given : (x : Pass) (s : List ℕ) (n place : ℕ) → 0 < x .refusal .number → x .refusal .number ≡ n → x .refusal .place ≡ place
+      → answerNow x ≡ finished len room (given s n place)
   unfolding answerNow finished
   answer-given x s n place h en ep = rw (lt-ltb 0 (x .refusal .number) h, en, ep)
 
-  answer-says : (x : Pass) (s : List ℕ) → length s ≡ len → Says len room s x → answerNow x ≡ finished len room (afterKnown s (known s len room))
+  answer-says : (x : Pass) (s : List ℕ) → length s ≡ len → Says len room s x
+      → answerNow x ≡ finished len room (afterKnown s (known s len room))
   unfolding answerNow finished
   answer-says x s l (refusal ks n e) = rw (e, lt-ltb 0 (x .refusal .number) n)
   answer-says x s l (more ks n m e) = absurd (omega arith)
   answer-says x s l (done ks n m e w k) = rw (e, n) (rw (e, w, k))
 
-  free-answer : (ts us : List (Bool × ℕ)) (x : Pass) (s : List ℕ) → Free x s → Tests ts us x s [] → (first us ≡ 0 → length s ≡ len) → (m : ℕ) → first us ≡ m
+  free-answer : (ts us : List (Bool × ℕ)) (x : Pass) (s : List ℕ) → Free x s → Tests ts us x s [] → (first us ≡ 0 → length s ≡ len)
+      → (m : ℕ) → first us ≡ m
       → answerNow (called ts x (opened x)) ≡ finished len room (bring len room us (going s) [])
   unfolding bring
   free-answer ts us x s f t l zero e =
       let z : x .refusal .number ≤ 0 = omega (arith, f .number) in
       let a : opened x ≡ called ts x (opened x) = called-on ts x z (opened x) (opened x) (t .same ∙ e) refl in
       let o = own x s f [] (t .fits e) (none-small s (f .small)) in
-      let q : Says len room (s ++ []) (fed (opened x) []) = says len room (onto (blank room)) 0 (fed (opened x) []) (s ++ []) (o .0) (joined x s f [] (t .fits e) (none-small s (f .small))) (o .1) in
+      let q : Says len room (s ++ []) (fed (opened x) []) =
+      says len room (onto (blank room)) 0 (fed (opened x) []) (s ++ []) (o .0) (joined x s f [] (t .fits e) (none-small s (f .small)))
+      (o .1) in
       rw (← a, e) (rw (fed-none (opened x)) at (answer-says (fed (opened x) []) (s ++ []) (rw (append-nil s) (l e)) q))
   free-answer ts us x s f t l (suc m) e =
       let z : x .refusal .number ≤ 0 = omega (arith, f .number) in
-      let a : stopOr (suc m) 0 x x ≡ called ts x (opened x) = called-refused ts x z (stopOr (suc m) 0 x x) (opened x) m (t .same ∙ e) refl in
+      let a : stopOr (suc m) 0 x x ≡ called ts x (opened x) =
+      called-refused ts x z (stopOr (suc m) 0 x x) (opened x) m (t .same ∙ e) refl in
       rw (← a, e) (answer-given (stopOr (suc m) 0 x x) s (suc m) 0 (omega arith) refl refl)
 
-  given-answer : (ts us : List (Bool × ℕ)) (x : Pass) (s : List ℕ) (n place : ℕ) → 0 < x .refusal .number → x .refusal .number ≡ n → x .refusal .place ≡ place
+  given-answer : (ts us : List (Bool × ℕ)) (x : Pass) (s : List ℕ) (n place : ℕ) → 0 < x .refusal .number → x .refusal .number ≡ n
+      → x .refusal .place ≡ place
       → answerNow (called ts x (opened x)) ≡ finished len room (bring len room us (given s n place) [])
   unfolding bring
   given-answer ts us x s n place h en ep = rw (← (called-again ts x (opened x) h)) (answer-given x s n place h en ep)
@@ -426,14 +489,18 @@ module _ (len room : ℕ) where
   judge-ends : (x : Pass) (v : Past) → Stood x v → answerNow (stateBy x judge-end) ≡ finished len room (judgeFinish len room v)
   judge-ends x (going s) (stands f) =
       free-answer (finishTests x) (shortTest len s ∷ []) x s f (judge-end-tests x s f)
-      (λ e. let t = all-fail (shortTest len s ∷ []) (tt, tt) e in omega (arith, ltb-false (length s) len (t .0), f .fits)) (first (shortTest len s ∷ [])) refl
+      (λ e. let t = all-fail (shortTest len s ∷ []) (tt, tt) e in omega (arith, ltb-false (length s) len (t .0), f .fits))
+      (first (shortTest len s ∷ [])) refl
   judge-ends x (given s n place) (stood h en ep) = given-answer (finishTests x) (shortTest len s ∷ []) x s n place h en ep
 
-  store-ends : (lent : ℕ) (x : Pass) (v : Past) → Stood x v → answerNow (stateBy x (store-end lent)) ≡ finished len room (storeFinish len room lent v)
+  store-ends : (lent : ℕ) (x : Pass) (v : Past) → Stood x v
+      → answerNow (stateBy x (store-end lent)) ≡ finished len room (storeFinish len room lent v)
   store-ends lent x (going s) (stands f) =
       free-answer (lentFinishTests x lent) (lentTest room lent ∷ shortTest len s ∷ []) x s f (store-end-tests x s lent f)
-      (λ e. let t = all-fail (lentTest room lent ∷ shortTest len s ∷ []) (tt, (tt, tt)) e in omega (arith, ltb-false (length s) len (t .1 .0), f .fits)) (first (lentTest room lent ∷ shortTest len s ∷ [])) refl
-  store-ends lent x (given s n place) (stood h en ep) = given-answer (lentFinishTests x lent) (lentTest room lent ∷ shortTest len s ∷ []) x s n place h en ep
+      (λ e. let t = all-fail (lentTest room lent ∷ shortTest len s ∷ []) (tt, (tt, tt)) e in omega (arith, ltb-false (length s) len (t .1 .0), f .fits))
+      (first (lentTest room lent ∷ shortTest len s ∷ [])) refl
+  store-ends lent x (given s n place) (stood h en ep) =
+      given-answer (lentFinishTests x lent) (lentTest room lent ∷ shortTest len s ∷ []) x s n place h en ep
 
   -- after any calls, in any order
   pub each-answer : (qs : List Asked) → AskedBytes qs → EachAnswer len room qs

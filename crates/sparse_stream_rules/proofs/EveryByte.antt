@@ -39,13 +39,16 @@ use Rattle.sparse_stream_rules.proofs.ChunkHeader.{header-step}
 -- ---- the header's tests
 
 -- once 20 bytes have come, all tests of the header run
-pub tests-run : (s : List ℕ) (came len room : ℕ) → 20 ≤ came → tested came headerEnds (headerTests s len room) ≡ asTested (first (headerTests s len room))
+pub tests-run : (s : List ℕ) (came len room : ℕ) → 20 ≤ came
+    → tested came headerEnds (headerTests s len room) ≡ asTested (first (headerTests s len room))
 unfolding headerTests
 tests-run s came len room l =
-    tested-all came headerEnds (headerTests s len room) (omega arith, (omega arith, (omega arith, (omega arith, (omega arith, (omega arith, tt)))))) (tt, (tt, (tt, (tt, (tt, (tt, tt))))))
+    tested-all came headerEnds (headerTests s len room)
+    (omega arith, (omega arith, (omega arith, (omega arith, (omega arith, (omega arith, tt)))))) (tt, (tt, (tt, (tt, (tt, (tt, tt))))))
 
 -- what is known where the header passes
-pub known-chunks : (s : List ℕ) (len room : ℕ) (lay : List (Option ℕ) → List ℕ) (n₀ : ℕ) (h : Header) → 28 ≤ length s → first (headerTests s len room) ≡ 0 → headerOf s ≡ h
+pub known-chunks : (s : List ℕ) (len room : ℕ) (lay : List (Option ℕ) → List ℕ) (n₀ : ℕ) (h : Header) → 28 ≤ length s
+    → first (headerTests s len room) ≡ 0 → headerOf s ≡ h
     → known s len room ≡ knownSum s (chunksKnown len room lay n₀ h s)
 unfolding known
 known-chunks s len room lay n₀ h l e g =
@@ -118,7 +121,10 @@ module _ (len room : ℕ) (lay : List (Option ℕ) → List ℕ) (n₀ : ℕ) wh
       longer = length-append s (b ∷ [])
 
       bytes-are : (i : ℕ) → i < length (s ++ (b ∷ [])) → getD (set (x .kept .file) (x .come .bytes) b) i 0 ≡ getD (s ++ (b ∷ [])) i 0
-      bytes-are i l = kept-is (x .kept .file) s b 0 i (x .come .bytes) (omega (arith, o .came)) (omega arith) (omega (arith, o .width, o .came, o .short)) (λ m. rw zero (o .bytes i (omega arith))) (omega (arith, longer)) ∙ rw zero
+      bytes-are i l =
+          kept-is (x .kept .file) s b 0 i (x .come .bytes) (omega (arith, o .came)) (omega arith)
+          (omega (arith, o .width, o .came, o .short)) (λ m. rw zero (o .bytes i (omega arith))) (omega (arith, longer))
+          ∙ rw zero
         where
           zero : 0 + i ≡ i
           zero = omega arith
@@ -130,20 +136,26 @@ module _ (len room : ℕ) (lay : List (Option ℕ) → List ℕ) (n₀ : ℕ) wh
           rw (o .told, o .roomy, c)
           (ap testedNumber (tested-agree (length (s ++ (b ∷ []))) headerEnds (headerTests (set (x .kept .file) (x .come .bytes) b) len room) (headerTests (s ++ (b ∷ [])) len room) (header-agree (set (x .kept .file) (x .come .bytes) b) (s ++ (b ∷ [])) (length (s ++ (b ∷ []))) len room (λ i l m. bytes-are i l))))
 
-      refused : (n : ℕ) → testedNumber (tested (length (s ++ (b ∷ []))) headerEnds (headerTests (s ++ (b ∷ [])) len room)) ≡ suc n → (t : List ℕ) → known ((s ++ (b ∷ [])) ++ t) len room ≡ stopped [] (suc n) 0
+      refused : (n : ℕ) → testedNumber (tested (length (s ++ (b ∷ []))) headerEnds (headerTests (s ++ (b ∷ [])) len room)) ≡ suc n
+          → (t : List ℕ) → known ((s ++ (b ∷ [])) ++ t) len room ≡ stopped [] (suc n) 0
       unfolding known
       refused n e t =
-          let r : tested (length (s ++ (b ∷ []))) headerEnds (headerTests (s ++ (b ∷ [])) len room) ≡ refuses (suc n) = number-refuses _ n e in
+          let r : tested (length (s ++ (b ∷ []))) headerEnds (headerTests (s ++ (b ∷ [])) len room) ≡ refuses (suc n) =
+          number-refuses _ n e in
           let g : tested (length (s ++ (b ∷ []))) headerEnds (headerTests ((s ++ (b ∷ [])) ++ t) len room) ≡ refuses (suc n) =
-          tested-agree (length (s ++ (b ∷ []))) headerEnds (headerTests ((s ++ (b ∷ [])) ++ t) len room) (headerTests (s ++ (b ∷ [])) len room)
-          (header-agree ((s ++ (b ∷ [])) ++ t) (s ++ (b ∷ [])) (length (s ++ (b ∷ []))) len room (λ i l m. List·getD-append (s ++ (b ∷ [])) t 0 i l)) ∙ r in
+          tested-agree (length (s ++ (b ∷ []))) headerEnds (headerTests ((s ++ (b ∷ [])) ++ t) len room)
+          (headerTests (s ++ (b ∷ [])) len room)
+          (header-agree ((s ++ (b ∷ [])) ++ t) (s ++ (b ∷ [])) (length (s ++ (b ∷ []))) len room (λ i l m. List·getD-append (s ++ (b ∷ [])) t 0 i l))
+          ∙ r in
           let m : length (s ++ (b ∷ [])) ≤ length ((s ++ (b ∷ [])) ++ t) = rw (length-append (s ++ (b ∷ [])) t) (omega arith) in
-          rw (tested-stays (length (s ++ (b ∷ []))) (length ((s ++ (b ∷ [])) ++ t)) m (suc n) headerEnds (headerTests ((s ++ (b ∷ [])) ++ t) len room) g)
+          rw
+          (tested-stays (length (s ++ (b ∷ []))) (length ((s ++ (b ∷ [])) ++ t)) m (suc n) headerEnds (headerTests ((s ++ (b ∷ [])) ++ t) len room) g)
 
       -- the known fields have come
       module _ (none : testedNumber (tested (length (s ++ (b ∷ []))) headerEnds (headerTests (s ++ (b ∷ [])) len room)) ≡ 0) (all : length (s ++ (b ∷ [])) ≡ 28) (small : (i : ℕ) → getD (s ++ (b ∷ [])) i 0 < 256) where
         passed-all : first (headerTests (s ++ (b ∷ [])) len room) ≡ 0
-        passed-all = sym (tested-number _) ∙ sym (ap testedNumber (tests-run (s ++ (b ∷ [])) (length (s ++ (b ∷ []))) len room (omega arith))) ∙ none
+        passed-all =
+            sym (tested-number _) ∙ sym (ap testedNumber (tests-run (s ++ (b ∷ [])) (length (s ++ (b ∷ []))) len room (omega arith))) ∙ none
 
         abbrev h : Header
         h = headerOf (s ++ (b ∷ []))
@@ -167,7 +179,10 @@ module _ (len room : ℕ) (lay : List (Option ℕ) → List ℕ) (n₀ : ℕ) wh
               long = omega arith;
               head = head;
               same = refl;
-              rest = λ t. ap₂ (λ (k : Header) (n : ℕ). knownFrom ((s ++ (b ∷ [])) ++ t) len h (k .chunks) (record { at = k .start; first = n })) (sym head) (sym (o .first));
+              rest =
+                  λ t. ap₂
+                  (λ (k : Header) (n : ℕ). knownFrom ((s ++ (b ∷ [])) ++ t) len h (k .chunks) (record { at = k .start; first = n }))
+                  (sym head) (sym (o .first));
               wrote = written-nil ∙ sym (o .wrote);
               blocks = rw (written-nil, skipped-nil, o .first);
               within = rw (o .first) (omega arith);
@@ -198,7 +213,8 @@ module _ (len room : ℕ) (lay : List (Option ℕ) → List ℕ) (n₀ : ℕ) wh
                   (λ e. tt) (λ l. in-file (record { before = l; none = refl; kind = unknown }));
             })
 
-      opened-by : (n : ℕ) → testedNumber (tested (length (s ++ (b ∷ []))) headerEnds (headerTests (s ++ (b ∷ [])) len room)) ≡ n → ((i : ℕ) → getD (s ++ (b ∷ [])) i 0 < 256)
+      opened-by : (n : ℕ) → testedNumber (tested (length (s ++ (b ∷ []))) headerEnds (headerTests (s ++ (b ∷ [])) len room)) ≡ n
+          → ((i : ℕ) → getD (s ++ (b ∷ [])) i 0 < 256)
           → (z : Bool) → eqb (x .come .bytes + 1) 28 ≡ z → Total (stopOr n 0 (headKept x b) (readyIf z (headKept x b))) (s ++ (b ∷ [])) q
       opened-by (suc n) e small z f = shut (record { number = omega arith; known = refused n e; part = o .part })
       opened-by zero e small true f = begins e (omega (arith, longer, o .came, eqb-true (x .come .bytes + 1) 28 f)) small
@@ -241,7 +257,8 @@ module _ (len room : ℕ) (lay : List (Option ℕ) → List ℕ) (n₀ : ℕ) wh
     stuck-by x h = rw (lt-ltb 0 (x .refusal .number) h)
 
     module _ (x : Pass) (s q : List ℕ) (b : ℕ) where
-      stopped-step : (h : Header) (ks : List Chunk) → Stop len room lay n₀ h x s q ks → After len room lay n₀ h (stepped x b) (s ++ (b ∷ [])) (laidBy x b q)
+      stopped-step : (h : Header) (ks : List Chunk) → Stop len room lay n₀ h x s q ks
+          → After len room lay n₀ h (stepped x b) (s ++ (b ∷ [])) (laidBy x b q)
       stopped-step h ks t =
           let e = stuck-by x (t .number) in
           rw (step-stuck x b e, lays-stuck x b q e)
@@ -253,7 +270,8 @@ module _ (len room : ℕ) (lay : List (Option ℕ) → List ℕ) (n₀ : ℕ) wh
             part = t .part ∙ ap lay (sym (t .due (b ∷ [])));
           }))
 
-      after-step : (h : Header) → HeaderFacts h len room → h .total < 2 ^ 32 → After len room lay n₀ h x s q → length s < len → ((i : ℕ) → getD (s ++ (b ∷ [])) i 0 < 256)
+      after-step : (h : Header) → HeaderFacts h len room → h .total < 2 ^ 32 → After len room lay n₀ h x s q → length s < len
+          → ((i : ℕ) → getD (s ++ (b ∷ [])) i 0 < 256)
           → After len room lay n₀ h (stepped x b) (s ++ (b ∷ [])) (laidBy x b q)
       after-step h f m (stops ks t) l small = stopped-step h ks t
       after-step h f m (goes ks base (in-file i)) l small = file-step len room lay n₀ h f law m x s q ks base b i
@@ -261,7 +279,8 @@ module _ (len room : ℕ) (lay : List (Option ℕ) → List ℕ) (n₀ : ℕ) wh
       after-step h f m (goes ks base (in-chunk i)) l small = chunk-step len room lay n₀ h f law m x s q ks base b i small
       after-step h f m (goes ks base (at-end i)) l small = absurd (omega (arith, i .end))
 
-      pub total-step : Total x s q → length s < len → ((i : ℕ) → getD (s ++ (b ∷ [])) i 0 < 256) → Total (stepped x b) (s ++ (b ∷ [])) (laidBy x b q)
+      pub total-step : Total x s q → length s < len → ((i : ℕ) → getD (s ++ (b ∷ [])) i 0 < 256)
+          → Total (stepped x b) (s ++ (b ∷ [])) (laidBy x b q)
       total-step (opening o) l small = opening-step x s q o b small
       total-step (shut t) l small =
           let e = stuck-by x (t .number) in
@@ -287,4 +306,5 @@ module _ (len room : ℕ) (lay : List (Option ℕ) → List ℕ) (n₀ : ℕ) wh
     total (b ∷ ys) x s q t l small =
         let e : (s ++ (b ∷ [])) ++ ys ≡ s ++ (b ∷ ys) = append-assoc s (b ∷ []) ys in
         let here : (i : ℕ) → getD (s ++ (b ∷ [])) i 0 < 256 = small-front (s ++ (b ∷ [])) ys (rw e small) in
-        rw (← e) (total ys (stepped x b) (s ++ (b ∷ [])) (laidBy x b q) (total-step x s q b t (omega arith) here) (rw (length-append s (b ∷ [])) (omega arith)) (rw e small))
+        rw (← e)
+        (total ys (stepped x b) (s ++ (b ∷ [])) (laidBy x b q) (total-step x s q b t (omega arith) here) (rw (length-append s (b ∷ [])) (omega arith)) (rw e small))

@@ -46,14 +46,17 @@ finding-sum s (whole ks) = go (first (sumTests s ks))
     go (suc n) = refl
 
 -- tests that have all run
-finding-tested : (n place : ℕ) (v : Known) (g : Finding) → (n ≡ 0 → findingOf v ≡ g) → findingOf (whenTested (asTested n) place v) ≡ unless n place g
+finding-tested : (n place : ℕ) (v : Known) (g : Finding) → (n ≡ 0 → findingOf v ≡ g)
+    → findingOf (whenTested (asTested n) place v) ≡ unless n place g
 finding-tested zero place v g e = e refl
 finding-tested (suc n) place v g e = refl
 
 module _ (s : List ℕ) (h : Header) (least : 12 ≤ h .head) where
   pub once : (n : ℕ) (c : Cursor) → c .at ≤ length s → findingOf (knownFrom s (length s) h n c) ≡ walk s (length s) h n c
   unfolding walk
-  once zero c l = ap findingOf (from-end s (length s) h c l) ∙ finding-tested (first (endTests (length s) h c)) (c .at) (whole []) (accepted []) (λ e. refl)
+  once zero c l =
+      ap findingOf (from-end s (length s) h c l)
+      ∙ finding-tested (first (endTests (length s) h c)) (c .at) (whole []) (accepted []) (λ e. refl)
   once (suc n) c l = go (ltb (length s) (c .at + h .head)) refl (first (chunkTests s (length s) h c)) refl (once n (nextCursor s c))
     where
       go : (y : Bool) → ltb (length s) (c .at + h .head) ≡ y → (m : ℕ) → first (chunkTests s (length s) h c) ≡ m
@@ -73,15 +76,18 @@ module _ (s : List ℕ) (h : Header) (least : 12 ≤ h .head) where
           rw (from-chunk s (length s) h n c (omega arith), f, read-refused s (length s) h c (rw f (omega arith)), f)
 
 -- a short image is refused by the first test
-tests-short : (s : List ℕ) (room : ℕ) → length s < 28 → tested (length s) headerEnds (headerTests s (length s) room) ≡ asTested (first (headerTests s (length s) room))
+tests-short : (s : List ℕ) (room : ℕ) → length s < 28
+    → tested (length s) headerEnds (headerTests s (length s) room) ≡ asTested (first (headerTests s (length s) room))
 unfolding headerTests
 tests-short s room l = rw (le-ltb (length s) 0 (omega arith), lt-ltb (length s) 28 l)
 
 -- the header's tests of a whole image
-tests-whole : (s : List ℕ) (room : ℕ) → tested (length s) headerEnds (headerTests s (length s) room) ≡ asTested (first (headerTests s (length s) room))
+tests-whole : (s : List ℕ) (room : ℕ)
+    → tested (length s) headerEnds (headerTests s (length s) room) ≡ asTested (first (headerTests s (length s) room))
 tests-whole s room = go (ltb (length s) 28) refl
   where
-    go : (y : Bool) → ltb (length s) 28 ≡ y → tested (length s) headerEnds (headerTests s (length s) room) ≡ asTested (first (headerTests s (length s) room))
+    go : (y : Bool) → ltb (length s) 28 ≡ y
+        → tested (length s) headerEnds (headerTests s (length s) room) ≡ asTested (first (headerTests s (length s) room))
     go true e = tests-short s room (ltb-true _ _ e)
     go false e = tests-run s (length s) (length s) room (omega (arith, ltb-false (length s) 28 e))
 

@@ -70,20 +70,25 @@ unfolding dueBy
 due-more s t Raw at n =
     let m : ℕ = min n (length s - at) in
     let d : ℕ = min n (length (s ++ t) - at) - min n (length s - at) in
-    let q : min n (length (s ++ t) - at) ≡ min n (length s - at) + (min n (length (s ++ t) - at) - min n (length s - at)) = omega (arith, length-append s t) in (
+    let q : min n (length (s ++ t) - at) ≡ min n (length s - at) + (min n (length (s ++ t) - at) - min n (length s - at)) =
+    omega (arith, length-append s t) in (
       map some (tab (rawByte (s ++ t) at) (min n (length s - at)) (min n (length (s ++ t) - at) - min n (length s - at))),
       ap (λ (i : ℕ). cellsBy (s ++ t) Raw at i) q
           ∙ raw-append (s ++ t) at (min n (length s - at)) (min n (length (s ++ t) - at) - min n (length s - at))
-          ∙ ap (λ (l : List (Option ℕ)). l ++ map some (tab (rawByte (s ++ t) at) (min n (length s - at)) (min n (length (s ++ t) - at) - min n (length s - at))))
+          ∙ ap
+          (λ (l : List (Option ℕ)). l ++ map some (tab (rawByte (s ++ t) at) (min n (length s - at)) (min n (length (s ++ t) - at) - min n (length s - at))))
           (cells-same (s ++ t) s Raw at (min n (length s - at)) (λ i l. List·getD-append s t 0 (at + i) (omega arith))),
     )
 due-more s t Fill at n = go (leb (at + 4) (length s)) refl
   where
-    go : (y : Bool) → leb (at + 4) (length s) ≡ y → (e : List (Option ℕ)) × (dueBy (s ++ t) Fill at n ≡ cond (leb (at + 4) (length s)) (cellsBy s Fill at n) [] ++ e)
+    go : (y : Bool) → leb (at + 4) (length s) ≡ y
+        → (e : List (Option ℕ)) × (dueBy (s ++ t) Fill at n ≡ cond (leb (at + 4) (length s)) (cellsBy s Fill at n) [] ++ e)
     go true g = ([], due-stays s t Fill at n (leb-true _ _ g) ∙ sym (append-nil (cond (leb (at + 4) (length s)) (cellsBy s Fill at n) [])))
     go false g = (dueBy (s ++ t) Fill at n, rw g)
-due-more s t DontCare at n = ([], cells-same (s ++ t) s DontCare at n (λ i l. absurd (omega arith)) ∙ sym (append-nil (cellsBy s DontCare at n)))
-due-more s t Unknown at n = ([], cells-same (s ++ t) s Unknown at n (λ i l. absurd (omega arith)) ∙ sym (append-nil (cellsBy s Unknown at n)))
+due-more s t DontCare at n =
+    ([], cells-same (s ++ t) s DontCare at n (λ i l. absurd (omega arith)) ∙ sym (append-nil (cellsBy s DontCare at n)))
+due-more s t Unknown at n =
+    ([], cells-same (s ++ t) s Unknown at n (λ i l. absurd (omega arith)) ∙ sym (append-nil (cellsBy s Unknown at n)))
 
 -- what stands behind a chunk of a whole image
 more-one-is : (k : Chunk) (w : Known) (ls : List Chunk) → moreKnown k w ≡ whole ls → (ms : List Chunk) × (w ≡ whole ms) × (ls ≡ k ∷ ms)
@@ -126,7 +131,8 @@ module _ (s t : List ℕ) (room : ℕ) (ks : List Chunk) (a : judged (s ++ t) (l
   abbrev Grows : List (Option ℕ) → Type 0
   Grows d = (e : List (Option ℕ)) × (due (s ++ t) (length (s ++ t)) room ≡ d ++ e)
 
-  grows-place : (h : Header) (ls : List Chunk) → Base len room lay n₀ h x s q ls → Place len room lay n₀ h x s ls → (e : List (Option ℕ)) × (dueFrom (s ++ t) (h .block) ls ≡ dueFrom s (h .block) ls ++ e)
+  grows-place : (h : Header) (ls : List Chunk) → Base len room lay n₀ h x s q ls → Place len room lay n₀ h x s ls
+      → (e : List (Option ℕ)) × (dueFrom (s ++ t) (h .block) ls ≡ dueFrom s (h .block) ls ++ e)
   unfolding dueFrom
   grows-place h ls b (in-file i) = let n : ls ≡ [] = i .none in rw n ([], refl)
   grows-place h ls b (at-header i) = ([], dues-stay s t (h .block) ls (i .complete) ∙ sym (append-nil (dueFrom s (h .block) ls)))
@@ -137,14 +143,16 @@ module _ (s t : List ℕ) (room : ℕ) (ks : List Chunk) (a : judged (s ++ t) (l
         ap (dueFrom (s ++ t) (h .block)) (i .is)
             ∙ due-one (s ++ t) (h .block) (i .init) (i .last)
             ∙ ap₂ (λ (l r : List (Option ℕ)). l ++ r) (dues-stay s t (h .block) (i .init) (i .complete)) (g .1)
-            ∙ sym (append-assoc (dueFrom s (h .block) (i .init)) (dueBy s (i .last .kind) (i .last .body) (i .last .blocks * h .block)) (g .0))
+            ∙ sym
+            (append-assoc (dueFrom s (h .block) (i .init)) (dueBy s (i .last .kind) (i .last .body) (i .last .blocks * h .block)) (g .0))
             ∙ ap (λ (l : List (Option ℕ)). l ++ g .0) (sym (ap (dueFrom s (h .block)) (i .is) ∙ due-one s (h .block) (i .init) (i .last))),
       )
 
   module _ (h : Header) (long : 28 ≤ length s) (same : headerOf s ≡ h) (tests : first (headerTests s len room) ≡ 0) where
     all-known : known (s ++ t) len room ≡ knownSum (s ++ t) (chunksKnown len room lay n₀ h (s ++ t))
     all-known =
-        known-chunks (s ++ t) len room lay n₀ h (rw (length-append s t) (omega arith)) (ap first (tests-stay s t len room long) ∙ tests) (headers s t long ∙ same)
+        known-chunks (s ++ t) len room lay n₀ h (rw (length-append s t) (omega arith)) (ap first (tests-stay s t len room long) ∙ tests)
+        (headers s t long ∙ same)
 
     was-whole : chunksKnown len room lay n₀ h (s ++ t) ≡ whole ks
     was-whole = summed-was (s ++ t) (chunksKnown len room lay n₀ h (s ++ t)) ks (sym all-known ∙ known-whole (s ++ t) room ks a)
@@ -165,7 +173,8 @@ module _ (s t : List ℕ) (room : ℕ) (ks : List Chunk) (a : judged (s ++ t) (l
         )
 
     grows-after : 12 ≤ h .head → After len room lay n₀ h x s q → Grows (due s len room)
-    grows-after f (stops ls e) = not-whole ls ks (x .refusal .number) (x .refusal .place) (sym (e .known t fits) ∙ sym all-known ∙ known-whole (s ++ t) room ks a)
+    grows-after f (stops ls e) =
+        not-whole ls ks (x .refusal .number) (x .refusal .place) (sym (e .known t fits) ∙ sym all-known ∙ known-whole (s ++ t) room ks a)
     grows-after f (goes ls b i) =
         let g = grows-goes ls b i in
         (g .0, g .1 ∙ ap (λ (l : List (Option ℕ)). l ++ g .0) (sym (due-goes len room lay n₀ x s q (rw (length-append s t) (omega arith)) h long same tests f ls b i)))
@@ -187,8 +196,13 @@ due-front : (s t : List ℕ) (room : ℕ) (ks : List Chunk) → judged (s ++ t) 
     → (e : List (Option ℕ)) × (effect (s ++ t) room ≡ due s (length (s ++ t)) room ++ e)
 due-front s t room ks a small =
     let l : length s ≤ length (s ++ t) = rw (length-append s t) (omega arith) in
-    let o = total (length (s ++ t)) room (onto (blank room)) 0 (onto-lays room (blank room) (blank-length room)) s (opened (begun (length (s ++ t)) room)) [] (blank room) (starts (length (s ++ t)) room (onto (blank room)) 0 (omega arith)) (omega arith) (small-front s t small) in
-    let g = grows s t room ks a (onto (blank room)) 0 (fed (opened (begun (length (s ++ t)) room)) s) (stores (opened (begun (length (s ++ t)) room)) s (blank room)) o in
+    let o =
+    total (length (s ++ t)) room (onto (blank room)) 0 (onto-lays room (blank room) (blank-length room)) s
+    (opened (begun (length (s ++ t)) room)) [] (blank room) (starts (length (s ++ t)) room (onto (blank room)) 0 (omega arith))
+    (omega arith) (small-front s t small) in
+    let g =
+    grows s t room ks a (onto (blank room)) 0 (fed (opened (begun (length (s ++ t)) room)) s)
+    (stores (opened (begun (length (s ++ t)) room)) s (blank room)) o in
     (g .0, sym (due-effect (s ++ t) room ks a) ∙ g .1)
 
 -- fed an accepted image, the partition is after every call in a cut state
@@ -207,5 +221,7 @@ as-whole room p cs small =
     record {
       judging = judging room cs small;
       storing = storing (length (flatten cs)) p cs small refl;
-      contents = λ ks a. all-due (length (flatten cs)) p cs small (omega arith) ∙ ap (λ (r : List (Option ℕ)). over r p) (due-effect (flatten cs) (length p) ks a);
+      contents =
+          λ ks a. all-due (length (flatten cs)) p cs small (omega arith)
+          ∙ ap (λ (r : List (Option ℕ)). over r p) (due-effect (flatten cs) (length p) ks a);
     }

@@ -92,7 +92,8 @@ unfolding knownSum
 summed-waiting s ks = refl
 
 -- before the known fields have come, all waits
-header-decided : (s : List ℕ) (len room : ℕ) → testedNumber (tested (length s) headerEnds (headerTests s len room)) ≡ 0 → Decided (length s) headerEnds (headerTests s len room)
+header-decided : (s : List ℕ) (len room : ℕ) → testedNumber (tested (length s) headerEnds (headerTests s len room)) ≡ 0
+    → Decided (length s) headerEnds (headerTests s len room)
 unfolding headerTests
 header-decided s len room e = decided (length s) headerEnds (headerTests s len room) tt (tt, (tt, (tt, (tt, (tt, (tt, tt)))))) e
 
@@ -102,7 +103,8 @@ unfolding headerTests
 header-come s len room a = a .1 .1 .1 .1 .1 .0
 
 -- what is known before the header has come
-pub opening-known : (s : List ℕ) (len room : ℕ) → length s < 28 → testedNumber (tested (length s) headerEnds (headerTests s len room)) ≡ 0 → known s len room ≡ waiting []
+pub opening-known : (s : List ℕ) (len room : ℕ) → length s < 28 → testedNumber (tested (length s) headerEnds (headerTests s len room)) ≡ 0
+    → known s len room ≡ waiting []
 unfolding known
 opening-known s len room l e = go (header-decided s len room e)
   where
@@ -112,15 +114,18 @@ opening-known s len room l e = go (header-decided s len room e)
         let r : asTested (first (headerTests s len room)) ≡ passes = sym (tests-run s (length s) len room (header-come s len room a)) ∙ v in
         let z : first (headerTests s len room) ≡ 0 = sym (tested-number (first (headerTests s len room))) ∙ ap testedNumber r in
         let f = header-facts s len room z in
-        rw v (ap (knownSum s) (from-early s len (headerOf s) (totalChunks s) (origin (headerOf s)) (omega (arith, f .start-least))) ∙ summed-waiting s [])
+        rw v
+        (ap (knownSum s) (from-early s len (headerOf s) (totalChunks s) (origin (headerOf s)) (omega (arith, f .start-least))) ∙ summed-waiting s [])
 
 -- ---- what a state says
 
 -- of the bytes that have come: refused so, or not refused with these chunks passed; and so much is due
 pub data Says (len room : ℕ) (s : List ℕ) (x : Pass) : Type 0 where
-  refusal : (ks : List Chunk) → 0 < x .refusal .number → known s len room ≡ stopped ks (x .refusal .number) (x .refusal .place) → Says len room s x
+  refusal : (ks : List Chunk) → 0 < x .refusal .number → known s len room ≡ stopped ks (x .refusal .number) (x .refusal .place)
+      → Says len room s x
   more : (ks : List Chunk) → x .refusal .number ≡ 0 → length s < len → known s len room ≡ waiting ks → Says len room s x
-  done : (ks : List Chunk) → x .refusal .number ≡ 0 → length s ≡ len → known s len room ≡ whole ks → written ks ≡ x .walk .written → skipped ks ≡ x .walk .next .first - x .walk .written → Says len room s x
+  done : (ks : List Chunk) → x .refusal .number ≡ 0 → length s ≡ len → known s len room ≡ whole ks → written ks ≡ x .walk .written
+      → skipped ks ≡ x .walk .next .first - x .walk .written → Says len room s x
 
 -- a whole image, by the number of the checksum's test
 summed-whole : (s : List ℕ) (ks : List Chunk) → checksumOf s (blockSize s) ks ≡ statedChecksum s → knownSum s (whole ks) ≡ whole ks
@@ -132,27 +137,36 @@ module _ (len room : ℕ) (lay : List (Option ℕ) → List ℕ) (n₀ : ℕ) (x
     all : known s len room ≡ knownSum s (chunksKnown len room lay n₀ h s)
     all = known-chunks s len room lay n₀ h long tests same
 
-    here : (ks : List Chunk) → Base len room lay n₀ h x s q ks → chunksKnown len room lay n₀ h s ≡ moreAll ks (knownFrom s len h (x .walk .left) (cursor x))
+    here : (ks : List Chunk) → Base len room lay n₀ h x s q ks
+        → chunksKnown len room lay n₀ h s ≡ moreAll ks (knownFrom s len h (x .walk .left) (cursor x))
     here ks b = rw (append-nil s) at (b .rest [])
 
-    waits-so : (ks : List Chunk) → Base len room lay n₀ h x s q ks → knownFrom s len h (x .walk .left) (cursor x) ≡ waiting [] → known s len room ≡ waiting ks
+    waits-so : (ks : List Chunk) → Base len room lay n₀ h x s q ks → knownFrom s len h (x .walk .left) (cursor x) ≡ waiting []
+        → known s len room ≡ waiting ks
     waits-so ks b e = all ∙ ap (knownSum s) (here ks b ∙ ap (moreAll ks) e ∙ more-waiting ks) ∙ summed-waiting s ks
 
     end-whole : (ks : List Chunk) → Base len room lay n₀ h x s q ks → AtEnd len room lay n₀ h x s ks → known s len room ≡ whole ks
     unfolding endTests
     end-whole ks b i =
         let w : knownFrom s len h (x .walk .left) (cursor x) ≡ whole [] =
-        rw (i .left) (from-end s len h (cursor x) (omega (arith, i .here)) ∙ rw (le-ltb (x .walk .next .first) (h .total) (i .full), le-ltb (x .walk .next .at) len (omega (arith, i .here, i .end)))) in
+        rw (i .left)
+        (from-end s len h (cursor x) (omega (arith, i .here)) ∙ rw (le-ltb (x .walk .next .first) (h .total) (i .full), le-ltb (x .walk .next .at) len (omega (arith, i .here, i .end))))
+        in
         let c : checksumOf s (blockSize s) ks ≡ statedChecksum s =
         checksum-is len room lay n₀ h x s q ks b (i .here) (i .complete) ∙ i .checks ∙ sym (ap (λ (o : Header). o .checksum) same) in
         all ∙ ap (knownSum s) (here ks b ∙ ap (moreAll ks) w ∙ more-whole ks) ∙ summed-whole s ks c
 
     says-after : After len room lay n₀ h x s q → Says len room s x
     says-after (stops ks t) = refusal ks (t .number) (all ∙ (rw (append-nil s) at (t .known [] (omega arith))))
-    says-after (goes ks b (in-file i)) = more ks (b .number) (omega (arith, i .before, b .inside)) (waits-so ks b (from-early s len h (x .walk .left) (cursor x) (i .before)))
+    says-after (goes ks b (in-file i)) =
+        more ks (b .number) (omega (arith, i .before, b .inside))
+        (waits-so ks b (from-early s len h (x .walk .left) (cursor x) (i .before)))
     says-after (goes ks b (at-header i)) =
-        more ks (b .number) (omega (arith, i .near, i .fits)) (waits-so ks b (from-header s len h (x .walk .left) (cursor x) (i .left) (i .here) (i .near) (i .fits)))
-    says-after (goes ks b (in-chunk i)) = more ks (b .number) (omega (arith, i .before, b .inside)) (waits-so ks b (from-early s len h (x .walk .left) (cursor x) (i .before)))
+        more ks (b .number) (omega (arith, i .near, i .fits))
+        (waits-so ks b (from-header s len h (x .walk .left) (cursor x) (i .left) (i .here) (i .near) (i .fits)))
+    says-after (goes ks b (in-chunk i)) =
+        more ks (b .number) (omega (arith, i .before, b .inside))
+        (waits-so ks b (from-early s len h (x .walk .left) (cursor x) (i .before)))
     says-after (goes ks b (at-end i)) = done ks (b .number) (i .end) (end-whole ks b i) (b .wrote) (omega (arith, b .blocks, b .wrote))
 
     due-is : (ks : List Chunk) → passed (known s len room) ≡ ks → due s len room ≡ dueFrom s (h .block) ks
@@ -161,17 +175,20 @@ module _ (len room : ℕ) (lay : List (Option ℕ) → List ℕ) (n₀ : ℕ) (x
 
     passed-is : (ks : List Chunk) → Base len room lay n₀ h x s q ks → Place len room lay n₀ h x s ks → passed (known s len room) ≡ ks
     passed-is ks b (in-file i) = ap passed (waits-so ks b (from-early s len h (x .walk .left) (cursor x) (i .before)))
-    passed-is ks b (at-header i) = ap passed (waits-so ks b (from-header s len h (x .walk .left) (cursor x) (i .left) (i .here) (i .near) (i .fits)))
+    passed-is ks b (at-header i) =
+        ap passed (waits-so ks b (from-header s len h (x .walk .left) (cursor x) (i .left) (i .here) (i .near) (i .fits)))
     passed-is ks b (in-chunk i) = ap passed (waits-so ks b (from-early s len h (x .walk .left) (cursor x) (i .before)))
     passed-is ks b (at-end i) = ap passed (end-whole ks b i)
 
     -- what is due of the bytes that have come
-    pub due-goes : (ks : List Chunk) → Base len room lay n₀ h x s q ks → Place len room lay n₀ h x s ks → due s len room ≡ dueFrom s (h .block) ks
+    pub due-goes : (ks : List Chunk) → Base len room lay n₀ h x s q ks → Place len room lay n₀ h x s ks
+        → due s len room ≡ dueFrom s (h .block) ks
     due-goes ks b i = due-is ks (passed-is ks b i)
 
     stored-after : After len room lay n₀ h x s q → q ≡ lay (due s len room)
     stored-after (stops ks t) =
-        let e : known s len room ≡ stopped ks (x .refusal .number) (x .refusal .place) = all ∙ (rw (append-nil s) at (t .known [] (omega arith))) in
+        let e : known s len room ≡ stopped ks (x .refusal .number) (x .refusal .place) = all
+        ∙ (rw (append-nil s) at (t .known [] (omega arith))) in
         t .part ∙ ap lay (sym (due-is ks (ap passed e)))
     stored-after (goes ks b i) = b .part ∙ ap lay (sym (due-goes ks b i))
 
@@ -183,7 +200,9 @@ module _ (len room : ℕ) (lay : List (Option ℕ) → List ℕ) (n₀ : ℕ) (x
   opening-less o = go (ltb len 28) refl
     where
       go : (y : Bool) → ltb len 28 ≡ y → length s < len
-      go true e = let z : testedNumber (refuses 1) ≡ 0 = sym (ap testedNumber (short-tests s (length s) len room (ltb-true len 28 e))) ∙ o .tests in absurd (omega arith)
+      go true e =
+          let z : testedNumber (refuses 1) ≡ 0 = sym (ap testedNumber (short-tests s (length s) len room (ltb-true len 28 e)))
+          ∙ o .tests in absurd (omega arith)
       go false e = omega (arith, ltb-false len 28 e, o .short)
 
   -- nothing is due before a chunk is known
@@ -217,5 +236,6 @@ number-not len room s x (done ks n m e w k) l =
     rw (n, ← j, e, w, k)
 
 -- the judge's
-pub answered : (len room : ℕ) (lay : List (Option ℕ) → List ℕ) (n₀ : ℕ) (x : Pass) (s q : List ℕ) → length s ≡ len → Total len room lay n₀ x s q → answerNow x ≡ answer s len room
+pub answered : (len room : ℕ) (lay : List (Option ℕ) → List ℕ) (n₀ : ℕ) (x : Pass) (s q : List ℕ) → length s ≡ len
+    → Total len room lay n₀ x s q → answerNow x ≡ answer s len room
 answered len room lay n₀ x s q l t = number-not len room s x (says len room lay n₀ x s q (omega arith) t) l

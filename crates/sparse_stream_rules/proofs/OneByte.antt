@@ -65,14 +65,16 @@ due-quiet s b DontCare at n h = refl
 due-quiet s b Unknown at n h = refl
 
 -- by what the state counts
-early-by : (k : Kind) (n at body span g : ℕ) → (writes k ≡ true → body + dataBytes k 1 span ≡ at) → n < at → g ≡ at - n → dataBytes k 1 span < g → Early k n body
+early-by : (k : Kind) (n at body span g : ℕ) → (writes k ≡ true → body + dataBytes k 1 span ≡ at) → n < at → g ≡ at - n
+    → dataBytes k 1 span < g → Early k n body
 early-by Raw n at body span g e l q d = omega (arith, e refl)
 early-by Fill n at body span g e l q d = omega (arith, e refl)
 early-by DontCare n at body span g e l q d = tt
 early-by Unknown n at body span g e l q d = tt
 
 -- no byte of a fill word has come
-not-begun : (k : Kind) (n at body span g m j : ℕ) → k ≡ Fill → (writes k ≡ true → body + dataBytes k 1 span ≡ at) → n < at → g ≡ at - n → dataBytes k 1 span < g → m ≡ n + 1 → body + j < m → ⊥
+not-begun : (k : Kind) (n at body span g m j : ℕ) → k ≡ Fill → (writes k ≡ true → body + dataBytes k 1 span ≡ at) → n < at → g ≡ at - n
+    → dataBytes k 1 span < g → m ≡ n + 1 → body + j < m → ⊥
 not-begun Raw n at body span g m j o e l q d w z = let v : _≡_ {A = ℕ} 0 1 = cc in absurd (omega arith)
 not-begun Fill n at body span g m j o e l q d w z = omega (arith, e refl)
 not-begun DontCare n at body span g m j o e l q d w z = let v : _≡_ {A = ℕ} 0 1 = cc in absurd (omega arith)
@@ -84,7 +86,8 @@ unfolding dueBy
 raw-length s at n h = length-cellsBy s Raw at (min n (length s - at)) ∙ omega arith
 
 -- a byte kept in its place
-pub kept-is : (w s : List ℕ) (b body j m : ℕ) → m ≡ length s - body → body ≤ length s → m < length w → (body + j < length s → getD w j 0 ≡ getD s (body + j) 0) → body + j < length s + 1
+pub kept-is : (w s : List ℕ) (b body j m : ℕ) → m ≡ length s - body → body ≤ length s → m < length w
+    → (body + j < length s → getD w j 0 ≡ getD s (body + j) 0) → body + j < length s + 1
     → getD (set w m b) j 0 ≡ getD (s ++ (b ∷ [])) (body + j) 0
 kept-is w s b body j m e l n f h = go (eqb j m) refl
   where
@@ -122,7 +125,12 @@ module _ (len room : ℕ) (lay : List (Option ℕ) → List ℕ) (n₀ : ℕ) (h
           blocks = base .blocks;
           within = base .within;
           inside = base .inside;
-          sum = e ∙ ap (λ (n : ℕ). crcFrom n (zeroed es)) (base .sum) ∙ sym (crc-append allOnes (zeroed (dueFrom s (h .block) ks)) (zeroed es)) ∙ ap (crcFrom allOnes) (sym (zeroed-append (dueFrom s (h .block) ks) es)) ∙ ap (λ (r : List (Option ℕ)). crcFrom allOnes (zeroed r)) (sym d);
+          sum =
+              e
+              ∙ ap (λ (n : ℕ). crcFrom n (zeroed es)) (base .sum)
+              ∙ sym (crc-append allOnes (zeroed (dueFrom s (h .block) ks)) (zeroed es))
+              ∙ ap (crcFrom allOnes) (sym (zeroed-append (dueFrom s (h .block) ks) es))
+              ∙ ap (λ (r : List (Option ℕ)). crcFrom allOnes (zeroed r)) (sym d);
           part = o ∙ ap lay (sym d);
           late = rw d (rw (length-append (dueFrom s (h .block) ks) es) (omega (arith, base .late)));
           wide = base .wide;
@@ -171,7 +179,9 @@ module _ (len room : ℕ) (lay : List (Option ℕ) → List ℕ) (n₀ : ℕ) (h
       span-is = ap₂ (λ (n : ℕ) (o : Header). n * o .block) (sym (i .size)) (base .head)
 
       end-is : endNow x ≡ from + span
-      end-is = ap₂ (λ (n : ℕ) (o : Header). n * o .block) first-is (base .head) ∙ add-mul (written (i .init) + skipped (i .init)) (i .last .blocks) (h .block)
+      end-is =
+          ap₂ (λ (n : ℕ) (o : Header). n * o .block) first-is (base .head)
+          ∙ add-mul (written (i .init) + skipped (i .init)) (i .last .blocks) (h .block)
 
       init-length : length (dueFrom s (h .block) (i .init)) ≡ from
       init-length = ap length (dues-all s (h .block) (i .init) (i .complete)) ∙ length-cells s (h .block) (i .init)
@@ -190,7 +200,8 @@ module _ (len room : ℕ) (lay : List (Option ℕ) → List ℕ) (n₀ : ℕ) (h
       dues u = ap (dueFrom u (h .block)) (i .is) ∙ due-one u (h .block) (i .init) (i .last)
 
       -- what a byte brings is what it brings of this chunk
-      dues-by : (es : List (Option ℕ)) → dueBy (s ++ (b ∷ [])) (i .last .kind) (i .last .body) span ≡ dueBy s (i .last .kind) (i .last .body) span ++ es
+      dues-by : (es : List (Option ℕ))
+          → dueBy (s ++ (b ∷ [])) (i .last .kind) (i .last .body) span ≡ dueBy s (i .last .kind) (i .last .body) span ++ es
           → dueFrom (s ++ (b ∷ [])) (h .block) ks ≡ dueFrom s (h .block) ks ++ es
       dues-by es e =
           dues (s ++ (b ∷ []))
@@ -221,7 +232,9 @@ module _ (len room : ℕ) (lay : List (Option ℕ) → List ℕ) (n₀ : ℕ) (h
 
       -- before its data
       early : dataBytes (i .last .kind) 1 span < gap x → Early (i .last .kind) (length s) (i .last .body)
-      early d = early-by (i .last .kind) (length s) (x .walk .next .at) (i .last .body) span (gap x) (i .exact) (i .before) (omega (arith, base .came)) d
+      early d =
+          early-by (i .last .kind) (length s) (x .walk .next .at) (i .last .body) span (gap x) (i .exact) (i .before)
+          (omega (arith, base .came)) d
 
       pass-step : dataBy (kindNow x) x < gap x → After len room lay n₀ h (stepped x b) (s ++ (b ∷ [])) (laidBy x b q)
       pass-step d =
@@ -229,7 +242,9 @@ module _ (len room : ℕ) (lay : List (Option ℕ) → List ℕ) (n₀ : ℕ) (h
           let g : dataBytes (i .last .kind) 1 span < gap x = rw data-is at d in
           let e = early g in
           let o : dueFrom (s ++ (b ∷ [])) (h .block) ks ≡ dueFrom s (h .block) ks =
-          dues-by [] (due-quiet s b (i .last .kind) (i .last .body) span e ∙ sym (append-nil (dueBy s (i .last .kind) (i .last .body) span))) ∙ append-nil (dueFrom s (h .block) ks) in
+          dues-by []
+          (due-quiet s b (i .last .kind) (i .last .body) span e ∙ sym (append-nil (dueBy s (i .last .kind) (i .last .body) span)))
+          ∙ append-nil (dueFrom s (h .block) ks) in
           rw (to l ∙ carried-pass x b d, lays-none x b q (data-before x d))
           (chunk-settles (x .come .sum) (x .kept .word) q (quiet-base (x .kept .word) (base .four) o)
           (λ k′ j m n. absurd (not-begun (i .last .kind) (length s) (x .walk .next .at) (i .last .body) span (gap x) (length (s ++ (b ∷ []))) j k′ (i .exact) (i .before) (omega (arith, base .came)) g longer n)))
@@ -245,14 +260,17 @@ module _ (len room : ℕ) (lay : List (Option ℕ) → List ℕ) (n₀ : ℕ) (h
           let y : i .last .body + dataBytes Raw 1 span ≡ x .walk .next .at = rw e at (i .exact (ap writes e)) in
           let here : i .last .body ≤ length s = omega (arith, y) in
           let there : length s < i .last .body + span = omega (arith, y) in
-          let o : dueFrom (s ++ (b ∷ [])) (h .block) ks ≡ dueFrom s (h .block) ks ++ (some b ∷ []) = dues-by (some b ∷ []) (rw e (raw-grows s b (i .last .body) span here there)) in
+          let o : dueFrom (s ++ (b ∷ [])) (h .block) ks ≡ dueFrom s (h .block) ks ++ (some b ∷ []) =
+          dues-by (some b ∷ []) (rw e (raw-grows s b (i .last .body) span here there)) in
           let v : length (dueBy s Raw (i .last .body) span) ≡ length s - i .last .body = raw-length s (i .last .body) span there in
           let n : length (dueFrom s (h .block) ks) ≡ endNow x - gap x =
           ap length (dues s) ∙ length-append (dueFrom s (h .block) (i .init)) (dueBy s (i .last .kind) (i .last .body) span)
-          ∙ ap₂ (λ (l r : ℕ). l + r) init-length (ap (λ (o : Kind). length (dueBy s o (i .last .body) span)) e ∙ v) ∙ omega (arith, end-is, y) in
+          ∙ ap₂ (λ (l r : ℕ). l + r) init-length (ap (λ (o : Kind). length (dueBy s o (i .last .body) span)) e ∙ v)
+          ∙ omega (arith, end-is, y) in
           let w : laidBy x b q ≡ lay (dueFrom s (h .block) ks ++ (some b ∷ [])) =
           lays-data x b q (free l) (omega (arith, base .long)) (omega arith) d ∙ rw now
-          (ap₂ (λ (m : ℕ) (r : List ℕ). laid m (some b ∷ []) r) (sym n) (base .part) ∙ sym (law .then (dueFrom s (h .block) ks) (some b ∷ []) (base .late))) in
+          (ap₂ (λ (m : ℕ) (r : List ℕ). laid m (some b ∷ []) r) (sym n) (base .part) ∙ sym (law .then (dueFrom s (h .block) ks) (some b ∷ []) (base .late)))
+          in
           let st : stepped x b ≡ settled (grown x (crcFrom (x .come .sum) (b ∷ [])) (x .kept .word)) = to l ∙ carried-data x b d ∙ rw now in
           rw st
           (chunk-settles (crcFrom (x .come .sum) (b ∷ [])) (x .kept .word) (laidBy x b q) (grown-base (crcFrom (x .come .sum) (b ∷ [])) (x .kept .word) (laidBy x b q) (some b ∷ []) (base .four) o refl w)
@@ -281,8 +299,11 @@ module _ (len room : ℕ) (lay : List (Option ℕ) → List ℕ) (n₀ : ℕ) (h
         word-four : length (set (x .kept .word) (4 - gap x) b) ≡ 4
         word-four = length-set (x .kept .word) (4 - gap x) b ∙ base .four
 
-        word-is : (j : ℕ) → j < 4 → i .last .body + j < length (s ++ (b ∷ [])) → getD (set (x .kept .word) (4 - gap x) b) j 0 ≡ getD (s ++ (b ∷ [])) (i .last .body + j) 0
-        word-is j m n = kept-is (x .kept .word) s b (i .last .body) j (4 - gap x) place here (omega (arith, base .four, place, y, i .before)) (i .word e j m) (rw longer at n)
+        word-is : (j : ℕ) → j < 4 → i .last .body + j < length (s ++ (b ∷ []))
+            → getD (set (x .kept .word) (4 - gap x) b) j 0 ≡ getD (s ++ (b ∷ [])) (i .last .body + j) 0
+        word-is j m n =
+            kept-is (x .kept .word) s b (i .last .body) j (4 - gap x) place here (omega (arith, base .four, place, y, i .before))
+            (i .word e j m) (rw longer at n)
 
         word-small : length s + 1 ≡ x .walk .next .at → (j : ℕ) → getD (set (x .kept .word) (4 - gap x) b) j 0 < 256
         word-small o j = go (ltb j 4) refl
@@ -295,15 +316,19 @@ module _ (len room : ℕ) (lay : List (Option ℕ) → List ℕ) (n₀ : ℕ) (h
 
         early-word : length s + 1 < i .last .body + 4 → dueFrom (s ++ (b ∷ [])) (h .block) ks ≡ dueFrom s (h .block) ks
         early-word o =
-            dues-by [] (rw e (due-quiet s b Fill (i .last .body) span o ∙ sym (append-nil (dueBy s Fill (i .last .body) span)))) ∙ append-nil (dueFrom s (h .block) ks)
+            dues-by [] (rw e (due-quiet s b Fill (i .last .body) span o ∙ sym (append-nil (dueBy s Fill (i .last .body) span))))
+            ∙ append-nil (dueFrom s (h .block) ks)
 
         fill-step : (z : Bool) → eqb (gap x) 1 ≡ z → After len room lay n₀ h (stepped x b) (s ++ (b ∷ [])) (laidBy x b q)
         unfolding worded fillLaid
         fill-step false r =
             let ne : gap x ≡ 1 → ⊥ = eqb-false (gap x) 1 r in
             let o : length s + 1 < i .last .body + 4 = omega (arith, y, i .before, base .came) in
-            let st : stepped x b ≡ settled (grown x (x .come .sum) (set (x .kept .word) (4 - gap x) b)) = to (i .before) ∙ carried-data x b d ∙ rw (now, r) in
-            let w : laidBy x b q ≡ q = lays-data x b q (free (i .before)) (omega (arith, base .long, base .came)) (omega (arith, i .before, base .came)) d ∙ rw (now, r) in
+            let st : stepped x b ≡ settled (grown x (x .come .sum) (set (x .kept .word) (4 - gap x) b)) = to (i .before)
+            ∙ carried-data x b d
+            ∙ rw (now, r) in
+            let w : laidBy x b q ≡ q = lays-data x b q (free (i .before)) (omega (arith, base .long, base .came)) (omega (arith, i .before, base .came)) d
+            ∙ rw (now, r) in
             rw (st, w)
             (chunk-settles (x .come .sum) (set (x .kept .word) (4 - gap x) b) q (quiet-base (set (x .kept .word) (4 - gap x) b) word-four (early-word o)) (λ k′. word-is))
         fill-step true r =
@@ -313,18 +338,23 @@ module _ (len room : ℕ) (lay : List (Option ℕ) → List ℕ) (n₀ : ℕ) (h
             let es : List (Option ℕ) = cellsBy (set (x .kept .word) (4 - gap x) b) Fill 0 span in
             let none-yet : dueBy s Fill (i .last .body) span ≡ [] = fill-early s (i .last .body) span (omega (arith, y)) in
             let all : dueBy (s ++ (b ∷ [])) Fill (i .last .body) span ≡ cellsBy (set (x .kept .word) (4 - gap x) b) Fill 0 span =
-            fill-whole (s ++ (b ∷ [])) (set (x .kept .word) (4 - gap x) b) (i .last .body) span (omega (arith, longer, y)) (λ j m. word-is j m (omega (arith, longer, y))) in
+            fill-whole (s ++ (b ∷ [])) (set (x .kept .word) (4 - gap x) b) (i .last .body) span (omega (arith, longer, y))
+            (λ j m. word-is j m (omega (arith, longer, y))) in
             let dd : dueFrom (s ++ (b ∷ [])) (h .block) ks ≡ dueFrom s (h .block) ks ++ cellsBy (set (x .kept .word) (4 - gap x) b) Fill 0 span =
             dues-by (cellsBy (set (x .kept .word) (4 - gap x) b) Fill 0 span) (rw e (all ∙ rw none-yet)) in
             let four : 4 * (span / 4) ≡ span = words (i .last .blocks) (h .block) (f .block-fours) in
             let sums : crcFrom (x .come .sum) (repeated (spanNow x / 4) (bytes 4 (numberAt (set (x .kept .word) (4 - gap x) b) 0 4))) ≡ crcFrom (x .come .sum) (zeroed (cellsBy (set (x .kept .word) (4 - gap x) b) Fill 0 span)) =
-            rw span-is (ap (crcFrom (x .come .sum)) (sym (rw four at (zeroed-fill (set (x .kept .word) (4 - gap x) b) (word-small o) 0 (span / 4))))) in
+            rw span-is
+            (ap (crcFrom (x .come .sum)) (sym (rw four at (zeroed-fill (set (x .kept .word) (4 - gap x) b) (word-small o) 0 (span / 4)))))
+            in
             let fr : endNow x - spanNow x ≡ from = omega (arith, end-is, span-is) in
             let dl : length (dueFrom s (h .block) ks) ≡ from =
             ap length (dues s) ∙ length-append (dueFrom s (h .block) (i .init)) (dueBy s (i .last .kind) (i .last .body) span)
-            ∙ ap₂ (λ (l r : ℕ). l + r) init-length (ap (λ (k : Kind). length (dueBy s k (i .last .body) span)) e ∙ ap length none-yet) ∙ add-zero from in
+            ∙ ap₂ (λ (l r : ℕ). l + r) init-length (ap (λ (k : Kind). length (dueBy s k (i .last .body) span)) e ∙ ap length none-yet)
+            ∙ add-zero from in
             let pp : laidBy x b q ≡ lay (dueFrom s (h .block) ks ++ cellsBy (set (x .kept .word) (4 - gap x) b) Fill 0 span) =
-            lays-data x b q (free (i .before)) (omega (arith, base .long, base .came)) (omega (arith, i .before, base .came)) d ∙ rw (now, r)
+            lays-data x b q (free (i .before)) (omega (arith, base .long, base .came)) (omega (arith, i .before, base .came)) d
+            ∙ rw (now, r)
             (ap₂ (λ (m n : ℕ). laid m (cellsBy (set (x .kept .word) (4 - gap x) b) Fill 0 n) q) (fr ∙ sym dl) span-is
             ∙ ap (laid (length (dueFrom s (h .block) ks)) (cellsBy (set (x .kept .word) (4 - gap x) b) Fill 0 span)) (base .part)
             ∙ sym (law .then (dueFrom s (h .block) ks) (cellsBy (set (x .kept .word) (4 - gap x) b) Fill 0 span) (base .late))) in
@@ -332,15 +362,21 @@ module _ (len room : ℕ) (lay : List (Option ℕ) → List ℕ) (n₀ : ℕ) (h
             to (i .before) ∙ carried-data x b d ∙ rw (now, r) in
             rw st
             (chunk-settles _ (set (x .kept .word) (4 - gap x) b) (laidBy x b q)
-            (grown-base _ (set (x .kept .word) (4 - gap x) b) (laidBy x b q) (cellsBy (set (x .kept .word) (4 - gap x) b) Fill 0 span) word-four dd sums pp) (λ k′. word-is))
+            (grown-base _ (set (x .kept .word) (4 - gap x) b) (laidBy x b q) (cellsBy (set (x .kept .word) (4 - gap x) b) Fill 0 span) word-four dd sums pp)
+            (λ k′. word-is))
 
       -- a byte of a chunk's data, or between its header and them
       pub chunk-step : ((j : ℕ) → getD (s ++ (b ∷ [])) j 0 < 256) → After len room lay n₀ h (stepped x b) (s ++ (b ∷ [])) (laidBy x b q)
       chunk-step small = go (ltb (dataBy (kindNow x) x) (gap x)) refl (i .last .kind) refl
         where
-          go : (z : Bool) → ltb (dataBy (kindNow x) x) (gap x) ≡ z → (k : Kind) → i .last .kind ≡ k → After len room lay n₀ h (stepped x b) (s ++ (b ∷ [])) (laidBy x b q)
+          go : (z : Bool) → ltb (dataBy (kindNow x) x) (gap x) ≡ z → (k : Kind) → i .last .kind ≡ k
+              → After len room lay n₀ h (stepped x b) (s ++ (b ∷ [])) (laidBy x b q)
           go true e k o = pass-step (ltb-true _ _ e)
           go false e Raw o = raw-step o (ltb-false _ _ e)
           go false e Fill o = fill-step o (ltb-false _ _ e) small (eqb (gap x) 1) refl
-          go false e DontCare o = let u : gap x ≤ dataBy (kindNow x) x = ltb-false _ _ e in let v : gap x ≤ dataBytes DontCare 1 span = rw (data-is, o) at u in absurd (omega (arith, i .before, base .came))
-          go false e Unknown o = let u : gap x ≤ dataBy (kindNow x) x = ltb-false _ _ e in let v : gap x ≤ dataBytes Unknown 1 span = rw (data-is, o) at u in absurd (omega (arith, i .before, base .came))
+          go false e DontCare o =
+              let u : gap x ≤ dataBy (kindNow x) x = ltb-false _ _ e in
+              let v : gap x ≤ dataBytes DontCare 1 span = rw (data-is, o) at u in absurd (omega (arith, i .before, base .came))
+          go false e Unknown o =
+              let u : gap x ≤ dataBy (kindNow x) x = ltb-false _ _ e in
+              let v : gap x ≤ dataBytes Unknown 1 span = rw (data-is, o) at u in absurd (omega (arith, i .before, base .came))

@@ -34,7 +34,8 @@ pub opened-same : (x : Pass) → 28 ≤ x .told .length → opened x ≡ x
 unfolding opened headerNumber
 opened-same x l = go (eqb (x .come .bytes) 0)
   where
-    go : (y : Bool) → stopOr (cond y (testedNumber (tested 0 headerEnds (headerTests (x .kept .file) (x .told .length) (x .told .room)))) 0) 0 x x ≡ x
+    go : (y : Bool)
+        → stopOr (cond y (testedNumber (tested 0 headerEnds (headerTests (x .kept .file) (x .told .length) (x .told .room)))) 0) 0 x x ≡ x
     go true = rw (long-tests (x .kept .file) (x .told .length) (x .told .room) l)
     go false = refl
 
@@ -58,7 +59,9 @@ module _ (len room : ℕ) (p : List ℕ) (size : length p ≡ room) where
   tracked x s q (opening o) n = record { told = o .told; came = o .came; long = go (ltb len 28) refl }
     where
       go : (y : Bool) → ltb len 28 ≡ y → 28 ≤ len
-      go true e = let z : testedNumber (refuses 1) ≡ 0 = sym (ap testedNumber (short-tests s (length s) len room (ltb-true len 28 e))) ∙ o .tests in absurd (omega arith)
+      go true e =
+          let z : testedNumber (refuses 1) ≡ 0 = sym (ap testedNumber (short-tests s (length s) len room (ltb-true len 28 e)))
+          ∙ o .tests in absurd (omega arith)
       go false e = ltb-false len 28 e
   tracked x s q (shut t) n = absurd (omega (arith, t .number))
   tracked x s q (chunked c) n = go (c .after)
@@ -90,10 +93,12 @@ module _ (len room : ℕ) (p : List ℕ) (size : length p ≡ room) where
       let z : x .refusal .number ≤ 0 = rw ex begun-free in
       let e = called-on ts x z (fed (opened x) c) (fed (opened x) c) (t z) refl in
       let g = leaves-on ts x z q (stores (opened x) c q) (stores (opened x) c q) (t z) refl in
-      rw (← e, ← g) (rw (ex, es, eq) (held (total len room (onto p) 0 (onto-lays room p size) c (opened (begun len room)) [] p (starts len room (onto p) 0 (omega arith)) (rw es at l) (rw es at small))))
+      rw (← e, ← g)
+      (rw (ex, es, eq) (held (total len room (onto p) 0 (onto-lays room p size) c (opened (begun len room)) [] p (starts len room (onto p) 0 (omega arith)) (rw es at l) (rw es at small))))
   held-on ts x s q c (held h) t l small = go (ltb 0 (x .refusal .number)) refl
     where
-      go : (y : Bool) → ltb 0 (x .refusal .number) ≡ y → Held (called ts x (fed (opened x) c)) (s ++ c) (leaves ts x q (stores (opened x) c q))
+      go : (y : Bool) → ltb 0 (x .refusal .number) ≡ y
+          → Held (called ts x (fed (opened x) c)) (s ++ c) (leaves ts x q (stores (opened x) c q))
       go true e =
           let n : 0 < x .refusal .number = ltb-true 0 (x .refusal .number) e in
           let k = stuck-by x n in
@@ -104,19 +109,25 @@ module _ (len room : ℕ) (p : List ℕ) (size : length p ≡ room) where
           let k = tracked x s q h (omega arith) in
           let o : opened x ≡ x = opened-same x (omega (arith, k .told, k .long)) in
           let a : fed x c ≡ called ts x (fed (opened x) c) = called-on ts x z (fed x c) (fed (opened x) c) (t z) (rw o) in
-          let b : stores x c q ≡ leaves ts x q (stores (opened x) c q) = leaves-on ts x z q (stores (opened x) c q) (stores x c q) (t z) (rw o) in
+          let b : stores x c q ≡ leaves ts x q (stores (opened x) c q) =
+          leaves-on ts x z q (stores (opened x) c q) (stores x c q) (t z) (rw o) in
           rw (← a, ← b) (held (total len room (onto p) 0 (onto-lays room p size) c x s q h l small))
 
   -- the tests pass where no more bytes come than announced
   piece-passes : (x : Pass) (s q c : List ℕ) → Held x s q → length s + length c ≤ len → Pass-tests (pieceTests x (length c)) x
   unfolding begun
   piece-passes x s q c (fresh ex es eq) l z = rw ex (rw (le-ltb len (0 + length c) (omega (arith, ap length es))))
-  piece-passes x s q c (held h) l z = let k = tracked x s q h (omega arith) in rw (le-ltb (x .told .length) (x .come .bytes + length c) (omega (arith, k .told, k .came)))
+  piece-passes x s q c (held h) l z =
+      let k = tracked x s q h (omega arith) in rw (le-ltb (x .told .length) (x .come .bytes + length c) (omega (arith, k .told, k .came)))
 
-  lent-passes : (x : Pass) (s q c : List ℕ) (lent : ℕ) → Held x s q → lent ≡ x .told .room → length s + length c ≤ len → Pass-tests (lentTests x lent (length c)) x
+  lent-passes : (x : Pass) (s q c : List ℕ) (lent : ℕ) → Held x s q → lent ≡ x .told .room → length s + length c ≤ len
+      → Pass-tests (lentTests x lent (length c)) x
   unfolding begun
-  lent-passes x s q c lent (fresh ex es eq) r l z = rw (eq-eqb lent (x .told .room) r) (rw ex (rw (le-ltb len (0 + length c) (omega (arith, ap length es)))))
-  lent-passes x s q c lent (held h) r l z = let k = tracked x s q h (omega arith) in rw (eq-eqb lent (x .told .room) r, le-ltb (x .told .length) (x .come .bytes + length c) (omega (arith, k .told, k .came)))
+  lent-passes x s q c lent (fresh ex es eq) r l z =
+      rw (eq-eqb lent (x .told .room) r) (rw ex (rw (le-ltb len (0 + length c) (omega (arith, ap length es)))))
+  lent-passes x s q c lent (held h) r l z =
+      let k = tracked x s q h (omega arith) in
+      rw (eq-eqb lent (x .told .room) r, le-ltb (x .told .length) (x .come .bytes + length c) (omega (arith, k .told, k .came)))
 
   -- ---- pieces
 
@@ -140,11 +151,14 @@ module _ (len room : ℕ) (p : List ℕ) (size : length p ≡ room) where
       let n : length (c ++ flatten cs) ≡ length c + length (flatten cs) = length-append c (flatten cs) in
       let o : length (s ++ c) ≡ length s + length c = length-append s c in
       let e : (s ++ c) ++ flatten cs ≡ s ++ (c ++ flatten cs) = append-assoc s c (flatten cs) in
-      let g = held-on (pieceTests x (length c)) x s q c h (piece-passes x s q c h (omega arith)) (omega arith) (front s c (flatten cs) small) in
-      let i = held-judge cs (judgeCall x c) (s ++ c) (leaves (pieceTests x (length c)) x q (stores (opened x) c q)) g (omega arith) (rw e small) in
+      let g =
+      held-on (pieceTests x (length c)) x s q c h (piece-passes x s q c h (omega arith)) (omega arith) (front s c (flatten cs) small) in
+      let i =
+      held-judge cs (judgeCall x c) (s ++ c) (leaves (pieceTests x (length c)) x q (stores (opened x) c q)) g (omega arith) (rw e small) in
       (i .0, rw (← e) (i .1))
 
-  held-store : (cs : List (List ℕ)) (x : Pass) (s q : List ℕ) → Held x s q → x .told .room ≡ room → length q ≡ room → length s + length (flatten cs) ≤ len → Bytes (s ++ flatten cs)
+  held-store : (cs : List (List ℕ)) (x : Pass) (s q : List ℕ) → Held x s q → x .told .room ≡ room → length q ≡ room
+      → length s + length (flatten cs) ≤ len → Bytes (s ++ flatten cs)
       → Held (storeCalls x q cs) (s ++ flatten cs) (storeLeft x q cs) × (storeCalls x q cs .told .room ≡ room) × (length (storeLeft x q cs) ≡ room)
   unfolding flatten
   held-store [] x s q h r k l small = (rw (append-nil s) h, r, k)
@@ -152,19 +166,24 @@ module _ (len room : ℕ) (p : List ℕ) (size : length p ≡ room) where
       let n : length (c ++ flatten cs) ≡ length c + length (flatten cs) = length-append c (flatten cs) in
       let o : length (s ++ c) ≡ length s + length c = length-append s c in
       let e : (s ++ c) ++ flatten cs ≡ s ++ (c ++ flatten cs) = append-assoc s c (flatten cs) in
-      let g = held-on (lentTests x (length q) (length c)) x s q c h (lent-passes x s q c (length q) h (k ∙ sym r) (omega arith)) (omega arith) (front s c (flatten cs) small) in
+      let g =
+      held-on (lentTests x (length q) (length c)) x s q c h (lent-passes x s q c (length q) h (k ∙ sym r) (omega arith)) (omega arith)
+      (front s c (flatten cs) small) in
       let i =
       held-store cs (storeCall x (length q) c) (s ++ c) (storeLeaves x c q) g (called-room (lentTests x (length q) (length c)) x c ∙ r)
-      (leaves-length (lentTests x (length q) (length c)) x q (stores (opened x) c q) (stores-length (opened x) c q) ∙ k) (omega arith) (rw e small) in
+      (leaves-length (lentTests x (length q) (length c)) x q (stores (opened x) c q) (stores-length (opened x) c q) ∙ k) (omega arith)
+      (rw e small) in
       (rw (← e) (i .0), i .1, i .2)
 
   -- ---- the end
 
-  finishes : (ts : List (Bool × ℕ)) (x : Pass) (s q : List ℕ) → Held x s q → Pass-tests ts x → length s ≡ len → answerNow (called ts x (opened x)) ≡ answer s len room
+  finishes : (ts : List (Bool × ℕ)) (x : Pass) (s q : List ℕ) → Held x s q → Pass-tests ts x → length s ≡ len
+      → answerNow (called ts x (opened x)) ≡ answer s len room
   finishes ts x s q (fresh ex es eq) t l =
       let z : x .refusal .number ≤ 0 = rw ex begun-free in
       let e = called-on ts x z (opened x) (opened x) (t z) refl in
-      rw (← e) (rw (ex, es) (answered len room (onto p) 0 (opened (begun len room)) [] p (sym (ap length es) ∙ l) (starts len room (onto p) 0 (omega arith))))
+      rw (← e)
+      (rw (ex, es) (answered len room (onto p) 0 (opened (begun len room)) [] p (sym (ap length es) ∙ l) (starts len room (onto p) 0 (omega arith))))
   finishes ts x s q (held h) t l = go (ltb 0 (x .refusal .number)) refl
     where
       go : (y : Bool) → ltb 0 (x .refusal .number) ≡ y → answerNow (called ts x (opened x)) ≡ answer s len room
@@ -181,15 +200,21 @@ module _ (len room : ℕ) (p : List ℕ) (size : length p ≡ room) where
   end-passes : (x : Pass) (s q : List ℕ) → Held x s q → length s ≡ len → Pass-tests (finishTests x) x
   unfolding begun
   end-passes x s q (fresh ex es eq) l z = rw ex (rw (le-ltb 0 len (omega (arith, ap length es))))
-  end-passes x s q (held h) l z = let k = tracked x s q h (omega arith) in rw (le-ltb (x .come .bytes) (x .told .length) (omega (arith, k .told, k .came)))
+  end-passes x s q (held h) l z =
+      let k = tracked x s q h (omega arith) in rw (le-ltb (x .come .bytes) (x .told .length) (omega (arith, k .told, k .came)))
 
-  lent-end-passes : (x : Pass) (s q : List ℕ) (lent : ℕ) → Held x s q → lent ≡ x .told .room → length s ≡ len → Pass-tests (lentFinishTests x lent) x
+  lent-end-passes : (x : Pass) (s q : List ℕ) (lent : ℕ) → Held x s q → lent ≡ x .told .room → length s ≡ len
+      → Pass-tests (lentFinishTests x lent) x
   unfolding begun
-  lent-end-passes x s q lent (fresh ex es eq) r l z = rw (eq-eqb lent (x .told .room) r) (rw ex (rw (le-ltb 0 len (omega (arith, ap length es)))))
-  lent-end-passes x s q lent (held h) r l z = let k = tracked x s q h (omega arith) in rw (eq-eqb lent (x .told .room) r, le-ltb (x .come .bytes) (x .told .length) (omega (arith, k .told, k .came)))
+  lent-end-passes x s q lent (fresh ex es eq) r l z =
+      rw (eq-eqb lent (x .told .room) r) (rw ex (rw (le-ltb 0 len (omega (arith, ap length es)))))
+  lent-end-passes x s q lent (held h) r l z =
+      let k = tracked x s q h (omega arith) in
+      rw (eq-eqb lent (x .told .room) r, le-ltb (x .come .bytes) (x .told .length) (omega (arith, k .told, k .came)))
 
   due-stored : (x : Pass) (s q : List ℕ) → Held x s q → length s ≤ len → q ≡ over (due s len room) p
-  due-stored x s q (fresh ex es eq) l = eq ∙ rw es (stored len room (onto p) 0 (opened (begun len room)) [] p (omega arith) (starts len room (onto p) 0 (omega arith)))
+  due-stored x s q (fresh ex es eq) l =
+      eq ∙ rw es (stored len room (onto p) 0 (opened (begun len room)) [] p (omega arith) (starts len room (onto p) 0 (omega arith)))
   due-stored x s q (held h) l = stored len room (onto p) 0 x s q l h
 
   begun-room : begun len room .told .room ≡ room
@@ -207,18 +232,26 @@ pub blank-length : (room : ℕ) → length (blank room) ≡ room
 blank-length room = length-replicate room 0
 
 -- the judging pass's answer is the whole form's
-pub judging : (room : ℕ) (cs : List (List ℕ)) → Bytes (flatten cs) → judgeAnswer (length (flatten cs)) room cs ≡ answer (flatten cs) (length (flatten cs)) room
+pub judging : (room : ℕ) (cs : List (List ℕ)) → Bytes (flatten cs)
+    → judgeAnswer (length (flatten cs)) room cs ≡ answer (flatten cs) (length (flatten cs)) room
 judging room cs small =
-    let h = held-judge (length (flatten cs)) room (blank room) (blank-length room) cs (begun (length (flatten cs)) room) [] (blank room) (fresh refl refl refl) (omega arith) small in
-    finishes (length (flatten cs)) room (blank room) (blank-length room) (finishTests (judgeCalls (begun (length (flatten cs)) room) cs)) (judgeCalls (begun (length (flatten cs)) room) cs) (flatten cs) (h .0) (h .1)
-    (end-passes (length (flatten cs)) room (blank room) (blank-length room) (judgeCalls (begun (length (flatten cs)) room) cs) (flatten cs) (h .0) (h .1) refl) refl
+    let h =
+    held-judge (length (flatten cs)) room (blank room) (blank-length room) cs (begun (length (flatten cs)) room) [] (blank room)
+    (fresh refl refl refl) (omega arith) small in
+    finishes (length (flatten cs)) room (blank room) (blank-length room) (finishTests (judgeCalls (begun (length (flatten cs)) room) cs))
+    (judgeCalls (begun (length (flatten cs)) room) cs) (flatten cs) (h .0) (h .1)
+    (end-passes (length (flatten cs)) room (blank room) (blank-length room) (judgeCalls (begun (length (flatten cs)) room) cs) (flatten cs) (h .0) (h .1) refl)
+    refl
 
 module _ (len : ℕ) (p : List ℕ) (cs : List (List ℕ)) (small : Bytes (flatten cs)) where
   abbrev last : Pass
   last = storeCalls (begun len (length p)) p cs
 
-  all-held : length (flatten cs) ≤ len → Held len (length p) p refl last (flatten cs) (storeAfter len p cs) × (last .told .room ≡ length p) × (length (storeAfter len p cs) ≡ length p)
-  all-held l = held-store len (length p) p refl cs (begun len (length p)) [] p (fresh refl refl refl) (begun-room len (length p) p refl) refl (omega arith) small
+  all-held : length (flatten cs) ≤ len
+      → Held len (length p) p refl last (flatten cs) (storeAfter len p cs) × (last .told .room ≡ length p) × (length (storeAfter len p cs) ≡ length p)
+  all-held l =
+      held-store len (length p) p refl cs (begun len (length p)) [] p (fresh refl refl refl) (begun-room len (length p) p refl) refl
+      (omega arith) small
 
   -- what a storing pass leaves is what is due
   pub all-due : length (flatten cs) ≤ len → Due len p cs

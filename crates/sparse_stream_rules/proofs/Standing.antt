@@ -135,7 +135,8 @@ module _ (len room : ℕ) (lay : List (Option ℕ) → List ℕ) (n₀ : ℕ) (h
   -- a state that was refused: so it is known, whatever more comes
   pub record Stop (x : Pass) (s q : List ℕ) (ks : List Chunk) : Type 0 where
     pub number : 0 < x .refusal .number
-    pub known : (t : List ℕ) → length s + length t ≤ len → knownSum (s ++ t) (chunksKnown (s ++ t)) ≡ stopped ks (x .refusal .number) (x .refusal .place)
+    pub known : (t : List ℕ) → length s + length t ≤ len
+        → knownSum (s ++ t) (chunksKnown (s ++ t)) ≡ stopped ks (x .refusal .number) (x .refusal .place)
     pub due : (t : List ℕ) → dueFrom (s ++ t) (h .block) ks ≡ dueFrom s (h .block) ks
     pub part : q ≡ lay (dueFrom s (h .block) ks)
 
@@ -155,7 +156,9 @@ module _ (len room : ℕ) (lay : List (Option ℕ) → List ℕ) (n₀ : ℕ) (h
       stops ks
       (record {
         number = rw en (omega arith);
-        known = λ t l. rw (en, ep) (ap (knownSum (s ++ t)) (b .rest t ∙ ap (moreAll ks) (e t) ∙ more-stopped ks (suc n) place) ∙ stopped-summed (s ++ t) ks (suc n) place);
+        known =
+            λ t l. rw (en, ep)
+            (ap (knownSum (s ++ t)) (b .rest t ∙ ap (moreAll ks) (e t) ∙ more-stopped ks (suc n) place) ∙ stopped-summed (s ++ t) ks (suc n) place);
         due = λ t. dues-stay s t (h .block) ks c;
         part = b .part;
       })
@@ -187,27 +190,33 @@ module _ (len room : ℕ) (lay : List (Option ℕ) → List ℕ) (n₀ : ℕ) (h
         (at-header
         (record { here = omega arith; near = omega arith; left = l; fits = o; bytes = λ i k m. absurd (omega arith); complete = c })))
 
-    ends : x .walk .left ≡ 0 → (t : List ℕ) → knownFrom (s ++ t) len h (x .walk .left) (cursor x) ≡ whenTested (asTested (first (endTests len h (cursor x)))) (x .walk .next .at) (whole [])
+    ends : x .walk .left ≡ 0 → (t : List ℕ)
+        → knownFrom (s ++ t) len h (x .walk .left) (cursor x) ≡ whenTested (asTested (first (endTests len h (cursor x)))) (x .walk .next .at) (whole [])
     ends l t = rw l (from-end (s ++ t) len h (cursor x) (later t))
 
     -- the checksum of what has come
     pub checksum-is : checksumOf s (blockSize s) ks ≡ bitXor (x .come .sum) allOnes
     checksum-is =
         let hb : blockSize s ≡ h .block = ap (λ (k : Header). k .block) (b .same) in
-        rw hb (sum-finish s (h .block) ks ∙ ap (λ (r : List (Option ℕ)). bitXor (crcFrom allOnes (zeroed r)) allOnes) (sym (dues-all s (h .block) ks c)) ∙ ap (λ (n : ℕ). bitXor n allOnes) (sym (b .sum)))
+        rw hb
+        (sum-finish s (h .block) ks ∙ ap (λ (r : List (Option ℕ)). bitXor (crcFrom allOnes (zeroed r)) allOnes) (sym (dues-all s (h .block) ks c)) ∙ ap (λ (n : ℕ). bitXor n allOnes) (sym (b .sum)))
 
-    by-sum : (x .walk .next .at ≡ len) → x .walk .left ≡ 0 → h .total ≤ x .walk .next .first → (bitXor (x .come .sum) allOnes ≡ h .checksum → ⊥) → (t : List ℕ) → length s + length t ≤ len
+    by-sum : (x .walk .next .at ≡ len) → x .walk .left ≡ 0 → h .total ≤ x .walk .next .first
+        → (bitXor (x .come .sum) allOnes ≡ h .checksum → ⊥) → (t : List ℕ) → length s + length t ≤ len
         → knownSum (s ++ t) (chunksKnown (s ++ t)) ≡ stopped ks 11 24
     unfolding knownSum sumTests endTests
     by-sum e l full d [] m =
         let w : chunksKnown (s ++ []) ≡ whole ks =
-        b .rest [] ∙ ap (moreAll ks) (ends l [] ∙ rw (le-ltb (x .walk .next .first) (h .total) full, le-ltb (x .walk .next .at) len (omega arith))) ∙ more-whole ks in
+        b .rest []
+        ∙ ap (moreAll ks) (ends l [] ∙ rw (le-ltb (x .walk .next .first) (h .total) full, le-ltb (x .walk .next .at) len (omega arith)))
+        ∙ more-whole ks in
         let hc : statedChecksum s ≡ h .checksum = ap (λ (k : Header). k .checksum) (b .same) in
         let o : s ++ [] ≡ s = append-nil s in
         rw w (rw o (rw (ne-eqb (checksumOf s (blockSize s) ks) (statedChecksum s) (λ g. d (sym checksum-is ∙ g ∙ hc)))))
     by-sum e l full d (a ∷ t) m = absurd (omega arith)
 
-    at-last : x .walk .left ≡ 0 → (y z w : Bool) → ltb (x .walk .next .first) (h .total) ≡ y → ltb (x .walk .next .at) len ≡ z → eqb (bitXor (x .come .sum) allOnes) (h .checksum) ≡ w → After (arrived x) s q
+    at-last : x .walk .left ≡ 0 → (y z w : Bool) → ltb (x .walk .next .first) (h .total) ≡ y → ltb (x .walk .next .at) len ≡ z
+        → eqb (bitXor (x .come .sum) allOnes) (h .checksum) ≡ w → After (arrived x) s q
     unfolding endTests
     at-last l true z w ey ez ew =
         let o : x .walk .next .first < h .total = ltb-true _ _ ey in
@@ -224,7 +233,8 @@ module _ (len room : ℕ) (lay : List (Option ℕ) → List ℕ) (n₀ : ℕ) (h
         let o : h .total ≤ x .walk .next .first = ltb-false _ _ ey in
         let r : len ≤ x .walk .next .at = ltb-false _ _ ez in
         let d : bitXor (x .come .sum) allOnes ≡ h .checksum → ⊥ = eqb-false _ _ ew in
-        let n : 11 ≡ arrival x = arrival-sum x h (sym (b .head)) (omega arith) o (omega (arith, b .told)) (bitXor (x .come .sum) allOnes) refl d in
+        let n : 11 ≡ arrival x =
+        arrival-sum x h (sym (b .head)) (omega arith) o (omega (arith, b .told)) (bitXor (x .come .sum) allOnes) refl d in
         after-same (arrived x) (stopOr 11 24 x x) s q (arrived-by x 11 n)
         (stops ks
         (record {
@@ -237,7 +247,8 @@ module _ (len room : ℕ) (lay : List (Option ℕ) → List ℕ) (n₀ : ℕ) (h
         let o : h .total ≤ x .walk .next .first = ltb-false _ _ ey in
         let r : len ≤ x .walk .next .at = ltb-false _ _ ez in
         let d : bitXor (x .come .sum) allOnes ≡ h .checksum = eqb-true _ _ ew in
-        let n : 0 ≡ arrival x = arrival-whole x h (sym (b .head)) (omega arith) o (omega (arith, b .told)) (bitXor (x .come .sum) allOnes) refl d in
+        let n : 0 ≡ arrival x =
+        arrival-whole x h (sym (b .head)) (omega arith) o (omega (arith, b .told)) (bitXor (x .come .sum) allOnes) refl d in
         after-same (arrived x) x s q (arrived-by x 0 n)
         (goes ks b (at-end (record { here = there; end = omega (arith, b .inside); left = l; full = o; checks = d; complete = c })))
 
@@ -246,10 +257,13 @@ module _ (len room : ℕ) (lay : List (Option ℕ) → List ℕ) (n₀ : ℕ) (h
       where
         go : (y : Bool) → ltb 0 (x .walk .left) ≡ y → After (arrived x) s q
         go true e = at-chunk (ltb-true 0 (x .walk .left) e) (ltb len (x .walk .next .at + h .head)) refl
-        go false e = at-last (omega (arith, ltb-false 0 (x .walk .left) e)) (ltb (x .walk .next .first) (h .total)) (ltb (x .walk .next .at) len) (eqb (bitXor (x .come .sum) allOnes) (h .checksum)) refl refl refl
+        go false e =
+            at-last (omega (arith, ltb-false 0 (x .walk .left) e)) (ltb (x .walk .next .first) (h .total)) (ltb (x .walk .next .at) len)
+            (eqb (bitXor (x .come .sum) allOnes) (h .checksum)) refl refl refl
 
   -- a state that may have arrived
-  pub settles : (x : Pass) (s q : List ℕ) (ks : List Chunk) → Base x s q ks → length s ≤ x .walk .next .at → (x .walk .next .at ≡ length s → Complete s (h .block) ks) → (length s < x .walk .next .at → Place x s ks)
+  pub settles : (x : Pass) (s q : List ℕ) (ks : List Chunk) → Base x s q ks → length s ≤ x .walk .next .at
+      → (x .walk .next .at ≡ length s → Complete s (h .block) ks) → (length s < x .walk .next .at → Place x s ks)
       → After (settled x) s q
   settles x s q ks b l c f = go (eqb (x .come .bytes) (x .walk .next .at)) refl
     where

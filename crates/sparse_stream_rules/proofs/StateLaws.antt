@@ -48,40 +48,54 @@ module _ (s : List ℕ) (came len room : ℕ) where
           module _ (v : major s ≡ 1) where
             pub number-twelve : came < 12 → 0 ≡ headerNumber s came len room
             unfolding headerNumber headerTests
-            number-twelve h = rw (le-ltb came 0 zero-le, le-ltb _ _ long, le-ltb _ _ four, eq-eqb _ _ m, le-ltb _ _ six, eq-eqb _ _ v, lt-ltb _ _ h)
+            number-twelve h =
+                rw (le-ltb came 0 zero-le, le-ltb _ _ long, le-ltb _ _ four, eq-eqb _ _ m, le-ltb _ _ six, eq-eqb _ _ v, lt-ltb _ _ h)
 
             module _ (twelve : 12 ≤ came) where
               pub number-sizes : (headerSizeRight 28 (fileHeaderSize s) && headerSizeRight 12 (chunkHeaderSize s) && leb (fileHeaderSize s) len) ≡ false
                   → 4 ≡ headerNumber s came len room
               unfolding headerNumber headerTests
-              number-sizes h = rw (le-ltb came 0 zero-le, le-ltb _ _ long, le-ltb _ _ four, eq-eqb _ _ m, le-ltb _ _ six, eq-eqb _ _ v, le-ltb _ _ twelve, h)
+              number-sizes h =
+                  rw
+                  (le-ltb came 0 zero-le, le-ltb _ _ long, le-ltb _ _ four, eq-eqb _ _ m, le-ltb _ _ six, eq-eqb _ _ v, le-ltb _ _ twelve, h)
 
               module _ (z : (headerSizeRight 28 (fileHeaderSize s) && headerSizeRight 12 (chunkHeaderSize s) && leb (fileHeaderSize s) len) ≡ true) where
                 pub number-sixteen : came < 16 → 0 ≡ headerNumber s came len room
                 unfolding headerNumber headerTests
-                number-sixteen h = rw (le-ltb came 0 zero-le, le-ltb _ _ long, le-ltb _ _ four, eq-eqb _ _ m, le-ltb _ _ six, eq-eqb _ _ v, le-ltb _ _ twelve, z, lt-ltb _ _ h)
+                number-sixteen h =
+                    rw
+                    (le-ltb came 0 zero-le, le-ltb _ _ long, le-ltb _ _ four, eq-eqb _ _ m, le-ltb _ _ six, eq-eqb _ _ v, le-ltb _ _ twelve, z, lt-ltb _ _ h)
 
                 module _ (sixteen : 16 ≤ came) where
                   pub number-block : blockSizeRight (blockSize s) ≡ false → 5 ≡ headerNumber s came len room
                   unfolding headerNumber headerTests
-                  number-block h = rw (le-ltb came 0 zero-le, le-ltb _ _ long, le-ltb _ _ four, eq-eqb _ _ m, le-ltb _ _ six, eq-eqb _ _ v, le-ltb _ _ twelve, z, le-ltb _ _ sixteen, h)
+                  number-block h =
+                      rw
+                      (le-ltb came 0 zero-le, le-ltb _ _ long, le-ltb _ _ four, eq-eqb _ _ m, le-ltb _ _ six, eq-eqb _ _ v, le-ltb _ _ twelve, z, le-ltb _ _ sixteen, h)
 
                   module _ (b : blockSizeRight (blockSize s) ≡ true) where
                     pub number-twenty : came < 20 → 0 ≡ headerNumber s came len room
                     unfolding headerNumber headerTests
-                    number-twenty h = rw (le-ltb came 0 zero-le, le-ltb _ _ long, le-ltb _ _ four, eq-eqb _ _ m, le-ltb _ _ six, eq-eqb _ _ v, le-ltb _ _ twelve, z, le-ltb _ _ sixteen, b, lt-ltb _ _ h)
+                    number-twenty h =
+                        rw
+                        (le-ltb came 0 zero-le, le-ltb _ _ long, le-ltb _ _ four, eq-eqb _ _ m, le-ltb _ _ six, eq-eqb _ _ v, le-ltb _ _ twelve, z, le-ltb _ _ sixteen, b, lt-ltb _ _ h)
 
                     module _ (twenty : 20 ≤ came) where
                       pub number-room : room < totalBlocks s * blockSize s → 6 ≡ headerNumber s came len room
                       unfolding headerNumber headerTests
-                      number-room h = rw (le-ltb came 0 zero-le, le-ltb _ _ long, le-ltb _ _ four, eq-eqb _ _ m, le-ltb _ _ six, eq-eqb _ _ v, le-ltb _ _ twelve, z, le-ltb _ _ sixteen, b, le-ltb _ _ twenty, lt-ltb _ _ h)
+                      number-room h =
+                          rw
+                          (le-ltb came 0 zero-le, le-ltb _ _ long, le-ltb _ _ four, eq-eqb _ _ m, le-ltb _ _ six, eq-eqb _ _ v, le-ltb _ _ twelve, z, le-ltb _ _ sixteen, b, le-ltb _ _ twenty, lt-ltb _ _ h)
 
                       pub number-passes : totalBlocks s * blockSize s ≤ room → 0 ≡ headerNumber s came len room
                       unfolding headerNumber headerTests
-                      number-passes h = rw (le-ltb came 0 zero-le, le-ltb _ _ long, le-ltb _ _ four, eq-eqb _ _ m, le-ltb _ _ six, eq-eqb _ _ v, le-ltb _ _ twelve, z, le-ltb _ _ sixteen, b, le-ltb _ _ twenty, le-ltb _ _ h)
+                      number-passes h =
+                          rw
+                          (le-ltb came 0 zero-le, le-ltb _ _ long, le-ltb _ _ four, eq-eqb _ _ m, le-ltb _ _ six, eq-eqb _ _ v, le-ltb _ _ twelve, z, le-ltb _ _ sixteen, b, le-ltb _ _ twenty, le-ltb _ _ h)
 
 -- a refusal by a number
-pub stop-number : (n place : ℕ) (x y : Pass) → (n ≡ 0 → ⊥) → stopOr n place x y ≡ record { told = x .told; refusal = record { number = n; place = place }; come = x .come; walk = x .walk; kept = x .kept }
+pub stop-number : (n place : ℕ) (x y : Pass) → (n ≡ 0 → ⊥)
+    → stopOr n place x y ≡ record { told = x .told; refusal = record { number = n; place = place }; come = x .come; walk = x .walk; kept = x .kept }
 stop-number zero place x y h = absurd (h refl)
 stop-number (suc n) place x y h = refl
 
@@ -102,14 +116,16 @@ module _ (x : Pass) where
   arrival-past h e l p = let q : x .told .length < x .walk .next .at + headOf x .head = omega arith in rw (lt-ltb _ _ l, lt-ltb _ _ q)
 
   -- the header does not fit
-  pub arrival-short : (h : Header) → h ≡ headOf x → 0 < x .walk .left → x .walk .next .at ≤ x .told .length → x .told .length - x .walk .next .at < h .head → 7 ≡ arrival x
+  pub arrival-short : (h : Header) → h ≡ headOf x → 0 < x .walk .left → x .walk .next .at ≤ x .told .length
+      → x .told .length - x .walk .next .at < h .head → 7 ≡ arrival x
   unfolding arrival
   arrival-short h e l p q =
       let r : x .told .length - x .walk .next .at < headOf x .head = rw e at q in
       let o : x .told .length < x .walk .next .at + headOf x .head = omega arith in rw (lt-ltb _ _ l, lt-ltb _ _ o)
 
   -- it does
-  pub arrival-chunk : (h : Header) → h ≡ headOf x → 0 < x .walk .left → x .walk .next .at ≤ x .told .length → h .head ≤ x .told .length - x .walk .next .at → 0 ≡ arrival x
+  pub arrival-chunk : (h : Header) → h ≡ headOf x → 0 < x .walk .left → x .walk .next .at ≤ x .told .length
+      → h .head ≤ x .told .length - x .walk .next .at → 0 ≡ arrival x
   unfolding arrival
   arrival-chunk h e l p q =
       let r : headOf x .head ≤ x .told .length - x .walk .next .at = rw e at q in
@@ -180,7 +196,8 @@ module _ (x : Pass) (h : Header) (k : Kind) (n z : ℕ) (eh : h ≡ headOf x) (e
           rw (right, le-ltb _ _ inside, le-ltb _ _ q)
 
 -- what a chunk that is not refused is known by
-pub chunk-fits : (x : Pass) → chunkNumber x ≡ 0 → (x .walk .next .at + sizeNow x ≤ x .told .length) × (x .walk .next .first + blocksNow x ≤ headOf x .total)
+pub chunk-fits : (x : Pass) → chunkNumber x ≡ 0
+    → (x .walk .next .at + sizeNow x ≤ x .told .length) × (x .walk .next .first + blocksNow x ≤ headOf x .total)
 unfolding chunkNumber
 chunk-fits x e =
     let t =

@@ -16,8 +16,8 @@ use Rattle.sparse_rules.specs.declared.Kind.the-variants.{Raw, Fill, DontCare, 
 use Rattle.sparse_store_rules.specs.Store.{laid}
 use Rattle.sparse_stream_rules.specs.declared.Pass.{Pass}
 use Rattle.sparse_stream_rules.specs.State.{kindNow, spanNow, endNow, dataBy, gap, stuck, moved, keeping, inData}
-use Rattle.sparse_stream_rules.specs.Steps.{settled, headed, chunkTaken, chunkKept, gathered, dataTaken, carried, stepped, fed}
-use Rattle.sparse_stream_rules.specs.Laid.{dataLaid, laidBy, stores}
+use Rattle.sparse_stream_rules.specs.Steps.{settled, headed, chunkTaken, chunkKept, gathered, fillSum, wordKept, worded, dataTaken, carried, stepped, fed}
+use Rattle.sparse_stream_rules.specs.Laid.{fillLaid, dataLaid, laidBy, stores}
 use Rattle.sparse_stream_rules.proofs.StateLaws.{settled-before}
 use Rattle.sparse_store_rules.proofs.Over.{laid-cons}
 use Rattle.rules.proofs.Tests.{or-left, or-right, and-rest}
@@ -243,6 +243,82 @@ stores-header x (b ∷ (c ∷ bs)) p n k h l =
     let e : x .come .bytes - x .walk .next .at ≡ 11 → ⊥ = λ z. omega arith in
     let g : stepped x b ≡ chunkKept x b = step-chunk x b (free-before x n (omega arith)) k h ∙ rw (ne-eqb _ _ e) in
     rw (g, lays-none x b p (data-after x h)) (stores-header (chunkKept x b) (c ∷ bs) p n (omega arith) (omega arith) (omega arith))
+
+-- ---- a fill word
+
+-- where the next byte of a word is kept
+next-place : (at came : ℕ) → at - came ≤ 4 → 1 < at - came → 4 - (at - (came + 1)) ≡ suc (4 - (at - came))
+next-place at came h l = omega arith
+
+-- the state with these bytes in its fill word, from a place on
+abbrev pub withWord : Pass → ℕ → List ℕ → Pass
+withWord x i bs = keeping x (record { file = x .kept .file; chunk = x .kept .chunk; word = sets (x .kept .word) i bs })
+
+module _ (x : Pass) (n : x .refusal .number ≡ 0) (known : 28 ≤ x .come .bytes) (k : kindNow x ≡ Fill) (four : gap x ≤ 4)
+    (more : 0 < gap x) where
+  -- the next byte is one of its data
+  word-in : gap x ≤ dataBy (kindNow x) x
+  word-in = rw k four
+
+  -- and is taken
+  word-free : stuck x ≡ false
+  word-free = free-before x n (omega arith)
+
+  module _ (b : ℕ) where
+    -- it is kept
+    word-step : stepped x b ≡ settled (worded x b)
+    word-step = step-data x b word-free known (omega arith) ∙ carried-data x b word-in ∙ rw k
+
+    -- the last one counts the whole chunk
+    word-last : gap x ≡ 1 → stepped x b ≡ settled (moved (wordKept x b) 1 (fillSum true (wordKept x b)))
+    unfolding worded
+    word-last e = word-step ∙ rw (eq-eqb (gap x) 1 e)
+
+    -- an earlier one counts nothing
+    word-more : (gap x ≡ 1 → ⊥) → stepped x b ≡ moved (wordKept x b) 1 (x .come .sum)
+    unfolding worded
+    word-more e =
+        word-step ∙ rw (ne-eqb (gap x) 1 e)
+        (settled-before (moved (wordKept x b) 1 (x .come .sum)) (λ (z : x .come .bytes + 1 ≡ x .walk .next .at). e (omega arith)))
+
+    -- what it stores
+    word-lays : (p : List ℕ) → laidBy x b p ≡ dataLaid Fill x b p
+    word-lays p = lays-data x b p word-free known (omega arith) word-in ∙ rw k
+
+-- the bytes of a fill word that are still missing, all at once
+pub fed-word : (x : Pass) (bs : List ℕ) → x .refusal .number ≡ 0 → 28 ≤ x .come .bytes → kindNow x ≡ Fill → gap x ≤ 4
+    → gap x ≡ length bs → 0 < length bs
+    → fed x bs ≡ settled (moved (withWord x (4 - gap x) bs) (length bs) (fillSum true (withWord x (4 - gap x) bs)))
+unfolding fed
+fed-word x [] n known k four l p = absurd (omega arith)
+fed-word x (b ∷ []) n known k four l p = word-last x n known k four (omega arith) b l
+fed-word x (b ∷ (c ∷ bs)) n known k four l p =
+    ap (λ (y : Pass). fed y (c ∷ bs)) (word-more x n known k four (omega arith) b (λ e. omega arith))
+    ∙ fed-word (moved (wordKept x b) 1 (x .come .sum)) (c ∷ bs) n (omega arith) k (omega arith) (omega arith) (omega arith)
+    ∙ ap₂
+    (λ (i m : ℕ). settled
+    (record {
+      told = x .told;
+      refusal = x .refusal;
+      come = record { bytes = m; sum = fillSum true (withWord (wordKept x b) i (c ∷ bs)) };
+      walk = x .walk;
+      kept = withWord (wordKept x b) i (c ∷ bs) .kept;
+    }))
+    (next-place (x .walk .next .at) (x .come .bytes) four (omega arith)) (omega arith)
+
+-- they store the chunk whole
+pub stores-word : (x : Pass) (bs p : List ℕ) → x .refusal .number ≡ 0 → 28 ≤ x .come .bytes → kindNow x ≡ Fill → gap x ≤ 4
+    → gap x ≡ length bs → 0 < length bs → stores x bs p ≡ fillLaid (withWord x (4 - gap x) bs) p
+unfolding stores fillLaid
+stores-word x [] p n known k four l q = absurd (omega arith)
+stores-word x (b ∷ []) p n known k four l q = word-lays x n known k four (omega arith) b p ∙ rw (eq-eqb (gap x) 1 l)
+stores-word x (b ∷ (c ∷ bs)) p n known k four l q =
+    let e : gap x ≡ 1 → ⊥ = λ z. omega arith in
+    let w : laidBy x b p ≡ p = word-lays x n known k four (omega arith) b p ∙ rw (ne-eqb (gap x) 1 e) in
+    rw (word-more x n known k four (omega arith) b e, w)
+    (stores-word (moved (wordKept x b) 1 (x .come .sum)) (c ∷ bs) p n (omega arith) k (omega arith) (omega arith) (omega arith)
+    ∙ ap (λ (i : ℕ). fillLaid (withWord (wordKept x b) i (c ∷ bs)) p)
+    (next-place (x .walk .next .at) (x .come .bytes) four (omega arith)))
 
 -- a single byte
 pub stores-one : (x : Pass) (b : ℕ) (p : List ℕ) → stores x (b ∷ []) p ≡ laidBy x b p

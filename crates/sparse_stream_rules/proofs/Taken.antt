@@ -44,7 +44,9 @@ settled-came k l x a = go (eqb (x .come .bytes) (x .walk .next .at))
 headed-came : (x : Pass) (b : ℕ) → Came (headed x b) (x .come .bytes + 1) (x .told)
 unfolding headed
 headed-came x b =
-    stop-came (headerNumber (set (x .kept .file) (x .come .bytes) b) (x .come .bytes + 1) (x .told .length) (x .told .room)) 0 (x .come .bytes + 1) (x .told) (headKept x b) (readyIf (eqb (x .come .bytes + 1) 28) (headKept x b)) (refl, refl) (go (eqb (x .come .bytes + 1) 28))
+    stop-came (headerNumber (set (x .kept .file) (x .come .bytes) b) (x .come .bytes + 1) (x .told .length) (x .told .room)) 0
+    (x .come .bytes + 1) (x .told) (headKept x b) (readyIf (eqb (x .come .bytes + 1) 28) (headKept x b)) (refl, refl)
+    (go (eqb (x .come .bytes + 1) 28))
   where
     go : (y : Bool) → Came (readyIf y (headKept x b)) (x .come .bytes + 1) (x .told)
     go true = settled-came (x .come .bytes + 1) (x .told) (ready (headKept x b)) (refl, refl)
@@ -57,14 +59,18 @@ gathered-came x b = go (eqb (x .come .bytes - x .walk .next .at) 11)
   where
     go : (y : Bool) → Came (takenIf y (chunkKept x b)) (x .come .bytes + 1) (x .told)
     go true =
-        stop-came (chunkNumber (chunkKept x b)) (x .walk .next .at) (x .come .bytes + 1) (x .told) (chunkKept x b) (settled (chunkRead (chunkKept x b))) (refl, refl)
+        stop-came (chunkNumber (chunkKept x b)) (x .walk .next .at) (x .come .bytes + 1) (x .told) (chunkKept x b)
+        (settled (chunkRead (chunkKept x b))) (refl, refl)
         (settled-came (x .come .bytes + 1) (x .told) (chunkRead (chunkKept x b)) (refl, refl))
     go false = (refl, refl)
 
 -- a byte of a chunk's rest
 carried-came : (x : Pass) (b : ℕ) → Came (carried x b) (x .come .bytes + 1) (x .told)
 unfolding carried worded
-carried-came x b = settled-came (x .come .bytes + 1) (x .told) (cond (ltb (dataBy (kindNow x) x) (gap x)) (moved x 1 (x .come .sum)) (dataTaken (kindNow x) x b)) (go (ltb (dataBy (kindNow x) x) (gap x)) (kindNow x))
+carried-came x b =
+    settled-came (x .come .bytes + 1) (x .told)
+    (cond (ltb (dataBy (kindNow x) x) (gap x)) (moved x 1 (x .come .sum)) (dataTaken (kindNow x) x b))
+    (go (ltb (dataBy (kindNow x) x) (gap x)) (kindNow x))
   where
     go : (y : Bool) (k : Kind) → Came (cond y (moved x 1 (x .come .sum)) (dataTaken k x b)) (x .come .bytes + 1) (x .told)
     go true k = (refl, refl)
@@ -81,7 +87,8 @@ step-came x b = go (stuck x) (ltb (x .come .bytes) 28) (ltb (x .come .bytes) (x 
     least : (y : Pass) → Came y (x .come .bytes + 1) (x .told) → (y .come .bytes ≤ x .come .bytes + 1) × (y .told ≡ x .told)
     least y a = (omega (arith, a .0), a .1)
 
-    go : (p q r : Bool) → (cond p x (cond q (headed x b) (cond r (carried x b) (gathered x b))) .come .bytes ≤ x .come .bytes + 1) × (cond p x (cond q (headed x b) (cond r (carried x b) (gathered x b))) .told ≡ x .told)
+    go : (p q r : Bool)
+        → (cond p x (cond q (headed x b) (cond r (carried x b) (gathered x b))) .come .bytes ≤ x .come .bytes + 1) × (cond p x (cond q (headed x b) (cond r (carried x b) (gathered x b))) .told ≡ x .told)
     go true q r = (omega arith, refl)
     go false true r = least (headed x b) (headed-came x b)
     go false false true = least (carried x b) (carried-came x b)
@@ -100,7 +107,8 @@ fed-came x (b ∷ ys) =
 pub opened-told : (x : Pass) → opened x .told ≡ x .told
 unfolding opened
 opened-told x =
-    stop-came (cond (eqb (x .come .bytes) 0) (headerNumber (x .kept .file) 0 (x .told .length) (x .told .room)) 0) 0 (x .come .bytes) (x .told) x x (refl, refl) (refl, refl) .1
+    stop-came (cond (eqb (x .come .bytes) 0) (headerNumber (x .kept .file) 0 (x .told .length) (x .told .room)) 0) 0 (x .come .bytes)
+    (x .told) x x (refl, refl) (refl, refl) .1
 
 -- a call leaves the announced partition length
 pub call-room : (x : Pass) (c : List ℕ) → fed (opened x) c .told .room ≡ x .told .room
@@ -127,7 +135,8 @@ unfolding laidBy fillLaid
 lays-length x b p = go (inData x) (kindNow x)
   where
     word : (y : Bool) → length (fillIf y (wordKept x b) p) ≡ length p
-    word true = length-over (replicate (fillFrom (wordKept x b)) none ++ cellsBy (wordKept x b .kept .word) Fill 0 (spanNow (wordKept x b))) p
+    word true =
+        length-over (replicate (fillFrom (wordKept x b)) none ++ cellsBy (wordKept x b .kept .word) Fill 0 (spanNow (wordKept x b))) p
     word false = refl
 
     go : (y : Bool) (k : Kind) → length (cond y (dataLaid k x b p) p) ≡ length p

@@ -54,7 +54,8 @@ AllCome came [] (t ∷ ts) = ⊥
 AllCome came (e ∷ es) (t ∷ ts) = (e ≤ came) × AllCome came es ts
 
 -- all bytes that the tests read have come
-pub tested-all : (came : ℕ) (es : List ℕ) (ts : List (Bool × ℕ)) → AllCome came es ts → Numbered ts → tested came es ts ≡ asTested (first ts)
+pub tested-all : (came : ℕ) (es : List ℕ) (ts : List (Bool × ℕ)) → AllCome came es ts → Numbered ts
+    → tested came es ts ≡ asTested (first ts)
 tested-all came es [] a n = refl
 tested-all came [] (t ∷ ts) a n = absurd a
 tested-all came (e ∷ es) (t ∷ ts) a n = rw (le-ltb came e (a .0), tested-all came es ts (a .1) (n .1)) (go (t .0) (t .1) (n .0))
@@ -76,12 +77,14 @@ pub data Decided (came : ℕ) (es : List ℕ) (ts : List (Bool × ℕ)) : Type 0
   have-run : tested came es ts ≡ passes → AllCome came es ts → Decided came es ts
 
 -- where no test refuses, each has passed or waits
-pub decided : (came : ℕ) (es : List ℕ) (ts : List (Bool × ℕ)) → Matched es ts → Numbered ts → testedNumber (tested came es ts) ≡ 0 → Decided came es ts
+pub decided : (came : ℕ) (es : List ℕ) (ts : List (Bool × ℕ)) → Matched es ts → Numbered ts → testedNumber (tested came es ts) ≡ 0
+    → Decided came es ts
 decided came es [] m n e = have-run refl tt
 decided came [] (t ∷ ts) m n e = absurd m
 decided came (x ∷ es) (t ∷ ts) m n e = go (ltb came x) (t .0) refl refl e (decided came es ts m (n .1))
   where
-    go : (y z : Bool) → ltb came x ≡ y → t .0 ≡ z → testedNumber (cond (ltb came x) waits (cond (t .0) (refuses (t .1)) (tested came es ts))) ≡ 0
+    go : (y z : Bool) → ltb came x ≡ y → t .0 ≡ z
+        → testedNumber (cond (ltb came x) waits (cond (t .0) (refuses (t .1)) (tested came es ts))) ≡ 0
         → (testedNumber (tested came es ts) ≡ 0 → Decided came es ts) → Decided came (x ∷ es) (t ∷ ts)
     go true z p r w i = must-wait (rw p)
     go false true p r w i =
@@ -95,7 +98,8 @@ decided came (x ∷ es) (t ∷ ts) m n e = go (ltb came x) (t .0) refl refl e (d
         on (have-run v a) = have-run (rw (p, r) v) (ltb-false came x p, a)
 
 -- a refusal stays when more bytes come
-pub tested-stays : (a b : ℕ) → a ≤ b → (n : ℕ) (es : List ℕ) (ts : List (Bool × ℕ)) → tested a es ts ≡ refuses n → tested b es ts ≡ refuses n
+pub tested-stays : (a b : ℕ) → a ≤ b → (n : ℕ) (es : List ℕ) (ts : List (Bool × ℕ)) → tested a es ts ≡ refuses n
+    → tested b es ts ≡ refuses n
 tested-stays a b h n es [] q = q
 tested-stays a b h n [] (t ∷ ts) q = q
 tested-stays a b h n (e ∷ es) (t ∷ ts) q = go (ltb a e) (t .0) refl refl q (tested-stays a b h n es ts)
@@ -149,7 +153,8 @@ module _ (s : List ℕ) (len : ℕ) (h : Header) where
   from-early (suc n) c e = rw (lt-ltb (length s) (c .at) e)
 
   -- a chunk's header is awaited
-  pub from-header : (n : ℕ) (c : Cursor) → 0 < n → c .at ≤ length s → length s < c .at + 12 → c .at + h .head ≤ len → knownFrom s len h n c ≡ waiting []
+  pub from-header : (n : ℕ) (c : Cursor) → 0 < n → c .at ≤ length s → length s < c .at + 12 → c .at + h .head ≤ len
+      → knownFrom s len h n c ≡ waiting []
   unfolding knownFrom chunkTests
   from-header zero c p q r t = absurd (omega arith)
   from-header (suc n) c p q r t = rw (le-ltb (length s) (c .at) q, le-ltb len (c .at + h .head) t, lt-ltb (length s) (c .at + 12) r)
@@ -175,7 +180,8 @@ module _ (s : List ℕ) (len : ℕ) (h : Header) where
   from-step (suc n) c p q = from-chunk n c q ∙ rw sub-one
 
   -- the end
-  pub from-end : (c : Cursor) → c .at ≤ length s → knownFrom s len h 0 c ≡ whenTested (asTested (first (endTests len h c))) (c .at) (whole [])
+  pub from-end : (c : Cursor) → c .at ≤ length s
+      → knownFrom s len h 0 c ≡ whenTested (asTested (first (endTests len h c))) (c .at) (whole [])
   unfolding knownFrom endTests
   from-end c q =
       ap (λ (y : Tested). whenTested y (c .at) (whole []))

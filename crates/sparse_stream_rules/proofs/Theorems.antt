@@ -1,12 +1,14 @@
 -- The theorems about passes.
 -- Assumes nothing.
-use mathlib.Core.Path.{subst}
-use mathlib.Core.List.{List}
+use mathlib.Core.Path.{_≡_, refl, ap, ap₂, _∙_, subst}
+use mathlib.Core.List.{List, _∷_}
 use Prim.Native.Nat.{ℕ}
 use lib.ListN.{length}
-use Rattle.sparse_store_rules.specs.Runs.{Cut, past, Reached, start, again}
+use Rattle.rules.specs.Answer.{Answer}
+use Rattle.sparse_rules.specs.Answers.{Counts, answer}
+use Rattle.sparse_store_rules.specs.Runs.{run, answers, Cut, past, Reached, start, again}
 use Rattle.sparse_store_rules.proofs.Restart.{restart}
-use Rattle.sparse_stream_rules.specs.Theorems.{PassCut, PassReached, ImageBytes, PassRestart, OnlyDue, EachStores, EachAnswers}
+use Rattle.sparse_stream_rules.specs.Theorems.{PassCut, PassReached, PassRun, ImageBytes, PassRestart, OnlyDue, EachStores, EachAnswers}
 use Rattle.sparse_stream_rules.specs.Theorems as passes
 use Rattle.sparse_stream_rules.proofs.Growth.{cut-always, as-whole}
 use Rattle.sparse_stream_rules.proofs.Passes.{all-due}
@@ -25,8 +27,28 @@ pass-reached : (ss : List (List ℕ)) (p q : List ℕ) → ImageBytes ss → Pas
 pass-reached ss p q g passes.start = start
 pass-reached ss p q g (passes.again {q = r} m c) = again (pass-reached ss p r g m) (pass-cut c g)
 
+-- a full run with passes in it is one without
+pass-run : {ss : List (List ℕ)} {p q : List ℕ} {vs : List (Answer Counts)} → PassRun ss p q vs → ImageBytes ss
+    → (q ≡ run ss p) × (vs ≡ answers ss p)
+pass-run passes.ended g = (refl, refl)
+pass-run (passes.full {s = s} {p = p} c) g =
+    let rest = pass-run c (g .1) in
+    (rest .0, ap (λ (r : List (Answer Counts)). answer s (length s) (length p) ∷ r) (rest .1))
+pass-run (passes.full-pass {ss = ss} {p = p} cs ks a c) g =
+    let same = as-whole (length p) p cs (g .0) in
+    let bytes = same .contents ks a in
+    let rest = pass-run c (g .1) in (
+      rest .0 ∙ ap (run ss) bytes,
+      ap₂ (λ (n : Answer Counts) (r : List (Answer Counts)). n ∷ r) (same .storing) (rest .1 ∙ ap (answers ss) bytes),
+    )
+
 pub pass-restart : PassRestart
-pass-restart ss p q g m = restart ss p q (pass-reached ss p q g m)
+pass-restart ss p q g m =
+    let done = restart ss p q (pass-reached ss p q g m) in (
+      done .0,
+      done .1,
+      λ r vs c. let full = pass-run c g in (full .0 ∙ done .1 .same-bytes, full .1 ∙ done .1 .same-answers),
+    )
 
 pub only-due : OnlyDue
 only-due len p cs small l = all-due len p cs small l

@@ -29,6 +29,14 @@ storeCall x lent c = called (lentTests x lent (length c)) x (fed (opened x) c)
 abbrev pub storeLeaves : Pass → List ℕ → List ℕ → List ℕ
 storeLeaves x c p = leaves (lentTests x (length p) (length c)) x p (stores (opened x) c p)
 
+-- a call that finishes the judging pass
+abbrev pub judgeEnd : Pass → Pass
+judgeEnd x = called (finishTests x) x (opened x)
+
+-- and one that finishes the storing pass, where so many bytes are lent
+abbrev pub storeEnd : Pass → ℕ → Pass
+storeEnd x lent = called (lentFinishTests x lent) x (opened x)
+
 -- pieces one after the other
 abbrev pub judgeCalls : Pass → List (List ℕ) → Pass
 judgeCalls x [] = x
@@ -46,11 +54,11 @@ storeLeft x p (c ∷ cs) = storeLeft (storeCall x (length p) c) (storeLeaves x c
 
 -- what a pass answers when it is finished after some pieces
 abbrev pub judgeAnswer : ℕ → ℕ → List (List ℕ) → Answer Counts
-judgeAnswer len room cs = let x : Pass = judgeCalls (begun len room) cs in answerNow (called (finishTests x) x (opened x))
+judgeAnswer len room cs = answerNow (judgeEnd (judgeCalls (begun len room) cs))
 
 -- and a storing pass
 abbrev pub storeAnswer : ℕ → List ℕ → List (List ℕ) → Answer Counts
-storeAnswer len p cs = let x : Pass = storeCalls (begun len (length p)) p cs in answerNow (called (lentFinishTests x (length p)) x (opened x))
+storeAnswer len p cs = answerNow (storeEnd (storeCalls (begun len (length p)) p cs) (length p))
 
 -- what a storing pass leaves after some pieces
 abbrev pub storeAfter : ℕ → List ℕ → List (List ℕ) → List ℕ
@@ -109,9 +117,9 @@ pub data Asked : Type 0 where
 -- what it makes of a state, and of a pass so far
 abbrev pub stateBy : Pass → Asked → Pass
 stateBy x (judge-piece c) = judgeCall x c
-stateBy x judge-end = called (finishTests x) x (opened x)
+stateBy x judge-end = judgeEnd x
 stateBy x (store-piece lent c) = storeCall x lent c
-stateBy x (store-end lent) = called (lentFinishTests x lent) x (opened x)
+stateBy x (store-end lent) = storeEnd x lent
 
 -- and of a pass so far
 abbrev pub pastBy : ℕ → ℕ → Past → Asked → Past

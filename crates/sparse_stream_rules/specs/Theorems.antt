@@ -4,13 +4,14 @@ use mathlib.Core.Path.{_≡_}
 use mathlib.Core.List.{List, [], _∷_, _++_, flatten}
 use Prim.Native.Nat.{ℕ, _≤_}
 use lib.ListN.{length}
-use Rattle.rules.specs.Answer.{accepted}
+use Rattle.rules.specs.Answer.{Answer, accepted}
 use Rattle.fields_rules.specs.Number.{Bytes}
 use Rattle.sparse_rules.specs.declared.Chunk.{Chunk}
 use Rattle.sparse_rules.specs.Judge.{judged}
+use Rattle.sparse_rules.specs.Answers.{Counts, answer}
 use Rattle.sparse_store_rules.specs.Store.{store}
-use Rattle.sparse_store_rules.specs.Runs.{Cut, Disturbed, Restored}
-use Rattle.sparse_stream_rules.specs.Passes.{storeAfter, Same, Due, EachStored, AllBytes, Asked, EachAnswer, AskedBytes}
+use Rattle.sparse_store_rules.specs.Runs.{run, answers, Cut, Disturbed, Restored}
+use Rattle.sparse_stream_rules.specs.Passes.{storeAfter, storeAnswer, Same, Due, EachStored, AllBytes, Asked, EachAnswer, AskedBytes}
 
 -- "Where the pieces together are exactly the announced length and no call gets 14, 15 or 16, the judging pass's verdict,
 -- place and counts equal the whole form's, and for an accepted image, each call lent the partition as the last left it, so do
@@ -45,14 +46,30 @@ pub data PassReached (ss : List (List ℕ)) (p : List ℕ) : List ℕ → Type 0
   start : PassReached ss p p
   again : {q r : List ℕ} → PassReached ss p q → PassCut ss q r → PassReached ss p r
 
+-- PassRun ss p q vs: a full run of the list ss begun on p, some of whose images passes store, ends with q and answers vs
+pub data PassRun : List (List ℕ) → List ℕ → List ℕ → List (Answer Counts) → Type 0 where
+  ended : {p : List ℕ} → PassRun [] p p []
+  -- an image by the plain store
+  full : {s : List ℕ} {ss : List (List ℕ)} {p q : List ℕ} {vs : List (Answer Counts)}
+      → PassRun ss (store s p) q vs → PassRun (s ∷ ss) p q (answer s (length s) (length p) ∷ vs)
+  -- an accepted image by a pass
+  full-pass : {ss : List (List ℕ)} {p q : List ℕ} {vs : List (Answer Counts)} (cs : List (List ℕ)) (ks : List Chunk)
+      → judged (flatten cs) (length (flatten cs)) (length p) ≡ accepted ks
+      → PassRun ss (storeAfter (length (flatten cs)) p cs) q vs → PassRun (flatten cs ∷ ss) p q (storeAnswer (length (flatten cs)) p cs ∷ vs)
+
 -- every byte of every image is one
 abbrev pub ImageBytes : List (List ℕ) → Type 0
 ImageBytes [] = Unit {0}
 ImageBytes (s ∷ ss) = Bytes s × ImageBytes ss
 
+-- SameRun ss p q: every full run of the list ss on q, by passes or not, leaves and answers what one on p without passes would
+abbrev pub SameRun : List (List ℕ) → List ℕ → List ℕ → Type 0
+SameRun ss p q = (r : List ℕ) (vs : List (Answer Counts)) → PassRun ss q r vs → (r ≡ run ss p) × (vs ≡ answers ss p)
+
 -- "Demand 3 covers a storing pass fed an accepted image": what `Restart` says, of lists whose images passes may store
 abbrev pub PassRestart : Type 0
-PassRestart = (ss : List (List ℕ)) (p q : List ℕ) → ImageBytes ss → PassReached ss p q → Disturbed ss p q × Restored ss p q
+PassRestart = (ss : List (List ℕ)) (p q : List ℕ) → ImageBytes ss → PassReached ss p q
+    → Disturbed ss p q × Restored ss p q × SameRun ss p q
 
 -- fed any bytes, no more than announced, each call lent the partition as the last left it: "exactly the bytes due before the
 -- refusal are stored", and where there is none, all that are due

@@ -5,10 +5,11 @@ use mathlib.Core.List.{List, [], _∷_, _++_}
 use Prim.Native.Nat.{ℕ, _+_, _*_}
 use native.Mathlib.Omega.{arith}
 use lib.ListN.{length, length-append}
+use Rattle.fields_rules.specs.Number.{packed}
 use Rattle.sparse_rules.specs.Cells.{tab, rawByte}
 use Rattle.sparse_write_rules.specs.Kinds.{BlockKind, kept, raw, fill}
 use Rattle.sparse_write_rules.specs.Runs.{Run}
-use Rattle.sparse_write_rules.specs.Encode.{packed, chunkSize, chunkHeader, chunk, chunks, version, header}
+use Rattle.sparse_write_rules.specs.Encode.{chunkSize, chunkHeader, chunk, chunks, version, header}
 
 -- no runs have no chunks
 pub chunks-nil : (b : ℕ) (d : List ℕ) (at : ℕ) → chunks b d at [] ≡ []

@@ -9,7 +9,7 @@ use native.Mathlib.Omega.{arith}
 use lib.ListN.{length, getD, drop, replicate, length-append, length-map, length-replicate, List·getD-append}
 use lib.Seq.{getD-drop, drop-drop, drop-at}
 use borrow.Author.Tests.{le-leb}
-use Rattle.fields_rules.specs.Number.{numberAt, Bytes}
+use Rattle.fields_rules.specs.Number.{numberAt, packed, Bytes}
 use Rattle.fields_rules.proofs.Laws.{number-bytes}
 use Rattle.rules.specs.First.{first}
 use Rattle.crc32_rules.specs.Crc.{crc32}
@@ -28,7 +28,7 @@ use Rattle.sparse_rules.proofs.Cells.{length-tab, tab-same, zeroed-append, zero
 use Rattle.sparse_write_rules.specs.Blocks.{Block, cellsOfBlock, blockCells, Fits, AllFit, Whole}
 use Rattle.sparse_write_rules.specs.Kinds.{BlockKind, kept, raw, fill, storedKind, sameKind, blockKind}
 use Rattle.sparse_write_rules.specs.Runs.{Run, runs}
-use Rattle.sparse_write_rules.specs.Encode.{packed, chunkSize, chunk, chunks, version, header, image, encode}
+use Rattle.sparse_write_rules.specs.Encode.{chunkSize, chunk, chunks, version, header, image, encode}
 use Rattle.sparse_write_rules.specs.Theorems.{runOf, ReadsAs, Encoded}
 use Rattle.sparse_write_rules.proofs.Runs.{tells-kinds, spread-runs, longest, count-runs, counted, counted-spread, All, AllRuns, all-runs}
 use Rattle.sparse_write_rules.proofs.KindCells.{cellsFor, stored-cells, WordFits, stored-fits}

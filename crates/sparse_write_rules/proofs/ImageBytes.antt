@@ -5,14 +5,15 @@ use mathlib.Core.List.{List, [], _∷_, map}
 use Prim.Native.Nat.{ℕ, zero, suc, _+_, _*_, _<_}
 use native.Mathlib.Omega.{arith}
 use lib.ListN.{length, getD, replicate}
-use Rattle.fields_rules.specs.Number.{bytes, Bytes}
+use Rattle.fields_rules.specs.Number.{bytes, packed, Bytes}
 use Rattle.fields_rules.proofs.Laws.{bytes-number, bytes-append}
+use Rattle.fields_rules.proofs.Packed.{bytes-packed}
 use Rattle.sparse_rules.specs.Cells.{tab, rawByte, zeroed}
 use Rattle.sparse_rules.proofs.Cells.{zeroed-append, zeroed-some, zeroed-none}
 use Rattle.sparse_write_rules.specs.Blocks.{Block, blockCells, AllFit}
 use Rattle.sparse_write_rules.specs.Kinds.{BlockKind, kept, raw, fill, sameKind, blockKind}
 use Rattle.sparse_write_rules.specs.Runs.{Run, runs}
-use Rattle.sparse_write_rules.specs.Encode.{packed, chunkType, chunkSize, chunkData, chunkHeader, chunk, chunks, version, header, image, encode}
+use Rattle.sparse_write_rules.specs.Encode.{chunkType, chunkSize, chunkData, chunkHeader, chunk, chunks, version, header, image, encode}
 
 bytes-zeros : (n i : ℕ) → getD (replicate n 0) i 0 < 256
 bytes-zeros zero i = omega arith
@@ -33,11 +34,6 @@ pub bytes-tab : (d : List ℕ) → Bytes d → (at i n : ℕ) → Bytes (tab (ra
 bytes-tab d small at i zero j = omega arith
 bytes-tab d small at i (suc n) zero = small (at + i)
 bytes-tab d small at i (suc n) (suc j) = bytes-tab d small at (suc i) n j
-
-bytes-packed : (fs : List (ℕ × ℕ)) → Bytes (packed fs)
-unfolding packed
-bytes-packed [] i = omega arith
-bytes-packed (f ∷ fs) i = bytes-append (bytes (f .0) (f .1)) (packed fs) (bytes-number (f .0) (f .1)) (bytes-packed fs) i
 
 bytes-data : (kind : BlockKind) (xs : List ℕ) → Bytes xs → Bytes (chunkData kind xs)
 bytes-data kept xs small i = omega arith

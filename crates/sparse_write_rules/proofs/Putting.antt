@@ -6,22 +6,13 @@ use Prim.Native.Nat.{ℕ, _+_, _-_, _≤_, _<_}
 use native.Mathlib.Omega.{arith}
 use lib.ListN.{length, take, drop}
 use lib.Seq.{sets, length-sets}
-use Rattle.fields_rules.specs.Number.{bytes, placed}
-use Rattle.fields_rules.proofs.Laws.{length-bytes, placed-whole, placed-none}
+use Rattle.fields_rules.specs.Number.{bytes, packed, placed}
+use Rattle.fields_rules.proofs.Laws.{placed-whole, placed-none}
+use Rattle.fields_rules.proofs.Packed.{field-put}
 use Rattle.fields_rules.proofs.Sets.{sets-append, sets-at}
 use Rattle.crc32_rules.specs.Crc.{crcFrom}
 use Rattle.sparse_write_rules.specs.Kinds.{raw, fill}
-use Rattle.sparse_write_rules.specs.Encode.{packed, chunkHeader, chunk, version, header}
-
--- ---- fields one after the other
-
--- a field put at its place, with those that are left
-field-put : (w v : ℕ) (fs : List (ℕ × ℕ)) (l : List ℕ) (i : ℕ) {m : List ℕ} → m ≡ placed l i (bytes w v) → i + w ≤ length l
-    → (sets l i (packed ((w, v) ∷ fs)) ≡ sets m (i + w) (packed fs)) × (length m ≡ length l)
-unfolding packed
-field-put w v fs l i e h =
-    let whole = e ∙ placed-whole l i (bytes w v) (rw (length-bytes w v) h) in
-    (sets-append (bytes w v) (packed fs) l i ∙ rw (length-bytes, ← whole), ap length whole ∙ length-sets l i (bytes w v))
+use Rattle.sparse_write_rules.specs.Encode.{chunkHeader, chunk, version, header}
 
 -- a chunk header that fits
 pub head-put : (t k z : ℕ) (l : List ℕ) (i : ℕ) {l1 l2 l3 l4 : List ℕ} → i + 12 ≤ length l

@@ -11,7 +11,7 @@ use native.Mathlib.Omega.{arith}
 use lib.ListN.{length, getD, drop, replicate, length-append, length-drop, List·getD-append}
 use lib.Seq.{getD-drop, drop-at, drop-drop, getD-append-add}
 use borrow.Author.Tests.{eq-eqb}
-use Rattle.fields_rules.specs.Number.{numberAt, bytes}
+use Rattle.fields_rules.specs.Number.{numberAt, bytes, packed}
 use Rattle.fields_rules.proofs.Laws.{number-drop, number-bytes}
 use Rattle.sparse_rules.specs.declared.Header.{Header}
 use Rattle.sparse_rules.specs.declared.Cursor.{Cursor}
@@ -30,7 +30,7 @@ use Rattle.sparse_rules.proofs.Refusals.{chunk-is}
 use Rattle.sparse_rules.proofs.Image.{chunk-cells, raw-cells, fill-cells}
 use Rattle.sparse_write_rules.specs.Runs.{Run, spread}
 use Rattle.sparse_write_rules.specs.Kinds.{BlockKind, kept, raw, fill}
-use Rattle.sparse_write_rules.specs.Encode.{packed, chunkType, chunkSize, chunkData, chunkHeader, chunk, chunks}
+use Rattle.sparse_write_rules.specs.Encode.{chunkType, chunkSize, chunkData, chunkHeader, chunk, chunks}
 use Rattle.sparse_write_rules.proofs.Runs.{counted}
 use Rattle.sparse_write_rules.proofs.Chunks.{length-chunk}
 use Rattle.sparse_write_rules.proofs.KindCells.{cellsFor, cells-split, cells-none}

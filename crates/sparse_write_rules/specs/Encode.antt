@@ -3,17 +3,12 @@
 use mathlib.Core.List.{List, [], _∷_, _++_, map}
 use Prim.Native.Nat.{ℕ, _+_, _*_}
 use lib.ListN.{length}
-use Rattle.fields_rules.specs.Number.{bytes}
+use Rattle.fields_rules.specs.Number.{bytes, packed}
 use Rattle.crc32_rules.specs.Crc.{crc32}
 use Rattle.sparse_rules.specs.Cells.{tab, rawByte, zeroed}
 use Rattle.sparse_write_rules.specs.Blocks.{Block, blockCells}
 use Rattle.sparse_write_rules.specs.Kinds.{BlockKind, kept, raw, fill, sameKind, blockKind}
 use Rattle.sparse_write_rules.specs.Runs.{Run, runs}
-
--- fields one after the other, each a width and a value
-unfoldable pub packed : List (ℕ × ℕ) → List ℕ
-packed [] = []
-packed (f ∷ fs) = bytes (f .0) (f .1) ++ packed fs
 
 -- the type of a chunk of a kind: don't care, raw, fill
 abbrev pub chunkType : BlockKind → ℕ

@@ -24,6 +24,10 @@ ghost use Rattle.sparse_rules.specs.Header.{headerOf, headerTests};
 ghost use Rattle.sparse_rules.specs.Answers.{answer};
 ghost use Rattle.sparse_store_rules.specs.Answers.{cutAnswer};
 ghost use Rattle.sparse_store_rules.specs.Store.{store, storeUpTo};
+ghost use Rattle.sparse_stream_rules.specs.States.{begun};
+ghost use Rattle.sparse_stream_rules.specs.Passes.{judgeCall, storeCall, storeLeaves, judgeEnd, storeEnd};
+ghost use Rattle.sparse_stream_bytes.specs.Layout.{passOf};
+ghost use Rattle.tarpaulark_passes.specs.Handed.{Held, Handed, HandedAnswer};
 ghost use Rattle.sparse_write_rules.specs.Write as writer;
 ghost use Rattle.tarpaulark_numbers.specs.Numbers.{verdictNumbers, countNumbers, chunkIn, chunkNumbers, headerNumbersBy, layoutNumbers};
 ghost use Rattle.slot_on_bytes.specs.OnBytes.{onBytes, freshBytes, bytesRefusal};
@@ -116,6 +120,60 @@ pub extern "C" fn tarpaulark_write(
     let written = sparse_write::write(flat, block_size, image);
     *out = written_answer(written);
     written_number(written)
+}
+
+// Begins a pass over an image of so many bytes that arrives in pieces, for a partition of so many bytes.
+#[no_mangle]
+pub extern "C" fn tarpaulark_pass_begin(length: u64, partition_len: u64, pass: &mut [u8; 104])
+    ensures { λ _. ⌜ Held (begun length «partition_len») (now (pass .exit)) ⌝ }
+{
+    tarpaulark_passes::begin(length, partition_len, pass);
+}
+
+// A piece for the judging pass. Answers place.
+#[no_mangle]
+pub extern "C" fn tarpaulark_pass_judge_piece(
+    pass: &mut [u8; 104],
+    piece: &[u8],
+    out: &mut [u64; 1],
+) -> u32
+    ensures { λ r. ⌜ Handed (judgeCall (passOf (now (pass .entry))) (now (piece .entry))) r (now (out .exit)) (now (pass .exit)) ⌝ }
+{
+    tarpaulark_passes::judge_piece(pass, piece, out)
+}
+
+// Finishes the judging pass. Answers as the judge does.
+#[no_mangle]
+pub extern "C" fn tarpaulark_pass_judge_finish(pass: &mut [u8; 104], out: &mut [u64; 3]) -> u32
+    ensures { λ r. ⌜ HandedAnswer (judgeEnd (passOf (now (pass .entry)))) r (now (out .exit)) (now (pass .exit)) ⌝ }
+{
+    tarpaulark_passes::judge_finish(pass, out)
+}
+
+// A piece for the storing pass, which is lent the partition. Answers place.
+#[no_mangle]
+pub extern "C" fn tarpaulark_pass_store_piece(
+    pass: &mut [u8; 104],
+    piece: &[u8],
+    partition: &mut [u8],
+    out: &mut [u64; 1],
+) -> u32
+    ensures { λ r. ⌜ Handed (storeCall (passOf (now (pass .entry))) (length (now (partition .entry))) (now (piece .entry))) r (now (out .exit)) (now (pass .exit))
+        × (now (partition .exit) ≡ storeLeaves (passOf (now (pass .entry))) (now (piece .entry)) (now (partition .entry))) ⌝ }
+{
+    tarpaulark_passes::store_piece(pass, piece, partition, out)
+}
+
+// Finishes the storing pass, which is lent the partition once more. Answers as the judge does.
+#[no_mangle]
+pub extern "C" fn tarpaulark_pass_store_finish(
+    pass: &mut [u8; 104],
+    partition: &[u8],
+    out: &mut [u64; 3],
+) -> u32
+    ensures { λ r. ⌜ HandedAnswer (storeEnd (passOf (now (pass .entry))) (length (now (partition .entry)))) r (now (out .exit)) (now (pass .exit)) ⌝ }
+{
+    tarpaulark_passes::store_finish(pass, partition, out)
 }
 
 // Finds the sections of a boot image. Answers the version, then for kernel, ramdisk, second, recovery,

@@ -2,7 +2,7 @@
 -- Assumes nothing.
 use mathlib.Core.Path.{refl}
 use lib.Count.{ones, onesIn}
-use Rattle.fields_rules.specs.Number.{numberAt}
+use Rattle.fields_rules.specs.Number.{numberAt, packed}
 use Rattle.crc32_rules.specs.Crc.{bit, steps, byteStep, crcFrom, crc32}
 use Rattle.slot_rules.specs.Records.{slotsValid, valid}
 use Rattle.slot_rules.specs.Operations.{firstFrom, startOf}
@@ -20,7 +20,7 @@ use Rattle.sparse_store_rules.specs.Store.{store}
 use Rattle.sparse_write_rules.specs.Blocks.{blockCells, blocksFrom, flatBlocks}
 use Rattle.sparse_write_rules.specs.Runs.{runs}
 use Rattle.sparse_write_rules.specs.Kinds.{allEqual, storedKind}
-use Rattle.sparse_write_rules.specs.Encode.{packed, chunkHeader, chunk, chunks, version, header, image, encode}
+use Rattle.sparse_write_rules.specs.Encode.{chunkHeader, chunk, chunks, version, header, image, encode}
 use Rattle.sparse_write_rules.specs.Write as write
 use Rattle.text_rules.specs.Words.{digitsUpTo, decimal, labelled}
 use Rattle.sparse_list_rules.specs.Lines.{refusedLine, headerLine, kindWord, chunkLine, lastLine}

@@ -1,12 +1,14 @@
 -- `crc32::quarters` meets its contract: the four quarters' states joined one after the other, and then what is left.
 -- Assumes nothing.
-use mathlib.Core.Path.{refl, sym}
-use Prim.Native.Nat.{_+_, _/_}
+use mathlib.Core.Path.{_≡_, refl, sym, ap, _∙_}
+use Prim.Native.Nat.{ℕ, _+_, _/_}
 use native.Mathlib.Nat.{sub-zero}
 use native.Mathlib.Omega.{arith}
-use lib.ListN.{length}
+use lib.ListN.{length, replicate}
 use lib.Seq.{length-take-le}
 use borrow.Author.Needs.{needs}
+use Rattle.crc32_rules.specs.Crc.{crcFrom}
+use Rattle.crc32_rules.specs.Power.{unit}
 use Rattle.crc32_rules.proofs.Pieces.{part, part-length, lane-start, lane-part, lane-done}
 use Rattle.crc32.proofs.quarters.Statement.{statement}
 use Rattle.crc32.proofs.quarters.Tie as tie
@@ -55,6 +57,9 @@ part-abreast-end-3 c = search needs
 abreast-requires : tie.Need-abreast-requires
 abreast-requires c κs = search needs
 
+zeros-power-requires : tie.Need-zeros-power-requires
+zeros-power-requires c κs = search needs
+
 join-requires : tie.Need-join-requires
 join-requires c κs = search needs
 
@@ -79,25 +84,28 @@ serial-requires c κs = search needs
 returns : tie.Need-returns
 returns c =
     let at-join = c .before .before in
-    let at-lanes = at-join .before .before .before in
+    let at-power = at-join .before .before .before in
+    let at-lanes = at-power .before in
     let args = at-lanes .before .before .before .before .before .before .args in
     let s = args .state in
     let src = args .src .now in
     let n = length src / 4 in
     let lanes = at-lanes .abreast .ensures in
+    let power : (k : ℕ) → k ≡ n → at-power .zeros-power .result ≡ crcFrom unit (replicate k 0) =
+    λ k e. at-power .zeros-power .ensures ∙ ap (λ (j : ℕ). crcFrom unit (replicate j 0)) (sym e) in
     let second = part-length n (n + n) src (omega arith) (omega arith) in
     let third = part-length (n + n) (n + n + n) src (omega arith) (omega arith) in
     let fourth = part-length (n + n + n) (n + n + n + n) src (omega arith) (omega arith) in
     let one = lane-part s src s 0 n (at-lanes .abreast .result .first) (omega arith) (rw sub-zero (lanes .0)) (lane-start s src) in
     let two =
     lane-part s src _ n (n + n) (at-join .before .before .join .result) (omega arith)
-    (at-join .before .before .join .ensures (part n (n + n) src) (omega arith) (lanes .1)) one in
+    (at-join .before .before .join .ensures (part n (n + n) src) (power (length (part n (n + n) src)) (omega arith)) (lanes .1)) one in
     let three =
     lane-part s src _ (n + n) (n + n + n) (at-join .before .join2 .result) (omega arith)
-    (at-join .before .join2 .ensures (part (n + n) (n + n + n) src) (omega arith) (lanes .2)) two in
+    (at-join .before .join2 .ensures (part (n + n) (n + n + n) src) (power (length (part (n + n) (n + n + n) src)) (omega arith)) (lanes .2)) two in
     let four =
     lane-part s src _ (n + n + n) (n + n + n + n) (at-join .join3 .result) (omega arith)
-    (at-join .join3 .ensures (part (n + n + n) (n + n + n + n) src) (omega arith) (lanes .3)) three in
+    (at-join .join3 .ensures (part (n + n + n) (n + n + n + n) src) (power (length (part (n + n + n) (n + n + n + n) src)) (omega arith)) (lanes .3)) three in
     lane-done s src (c .serial .result) (length src) refl
     (lane-part s src _ (n + n + n + n) (length src) (c .serial .result) (omega arith) (c .serial .ensures) four)
 
@@ -119,6 +127,7 @@ quarters-spec =
     part-abreast-start-3
     part-abreast-end-3
     abreast-requires
+    zeros-power-requires
     join-requires
     join-requires-2
     join-requires-3

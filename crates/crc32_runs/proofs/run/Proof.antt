@@ -33,8 +33,8 @@ product-requires c κs = search needs
 product-requires-2 : tie.Need-product-requires-2 Inv-loop μ-loop
 product-requires-2 c κs = search needs
 
-product-requires-3 : tie.Need-product-requires-3 Inv-loop μ-loop
-product-requires-3 c κs = search needs
+added-requires : tie.Need-added-requires Inv-loop μ-loop
+added-requires c κs = search needs
 
 loop-less : tie.Need-loop-less Inv-loop μ-loop
 loop-less c = search needs
@@ -42,14 +42,14 @@ loop-less c = search needs
 loop-again : tie.Need-loop-again Inv-loop μ-loop
 loop-again c e h =
     let now = c .before .before .before .before .loop .inv e h in
-    let squared = c .product3 in
-    let added = c .before .product2 in
+    let squared = c .product2 in
+    let more = c .before .added in
     ⊎-elim
     (λ w. rw (w .2)
-    (odd-turn now (squared .result) (added .result) (omega arith) (omega arith) (squared .ensures) (added .ensures)
+    (odd-turn now (squared .result) (more .result) (omega arith) (omega arith) (squared .ensures) (more .ensures)
     (w .1 .result) (omega arith) (w .1 .ensures) (omega arith)))
     (λ w. rw (w .1)
-    (even-turn now (squared .result) (added .result) (omega arith) (omega arith) (squared .ensures) (added .ensures) (omega arith)))
+    (even-turn now (squared .result) (more .result) (omega arith) (omega arith) (squared .ensures) (more .ensures) (omega arith)))
     (c .before .before .if1 .came)
 
 returns : tie.Need-returns Inv-loop μ-loop
@@ -63,8 +63,8 @@ run-spec =
     μ-loop
     loop-holds
     product-requires
+    added-requires
     product-requires-2
-    product-requires-3
     loop-less
     loop-again
     returns)

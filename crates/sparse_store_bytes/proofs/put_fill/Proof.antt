@@ -1,11 +1,12 @@
--- `sparse_store_bytes::put_fill` meets its contract: a word that the image holds whole is repeated over a part in fours,
--- all else byte by byte. The loop's invariant: the part holds the repeated bytes up to byte i. The measure is the bytes
--- left. Assumes nothing.
-use Prim.Native.Nat.{_-_}
+-- `sparse_store_bytes::put_fill` meets its contract: the first 16 bytes one by one, then the others as those before them. The
+-- loop's invariant: the part holds the repeated bytes up to byte i. The measure is the first bytes left. Assumes nothing.
+use mathlib.Core.Path.{_≡_, ap, _∙_}
+use Prim.Native.Nat.{ℕ, _-_, _<_}
+use native.Mathlib.Omega.{arith}
 use borrow.Author.Needs.{needs}
-use lib.ListN.{length}
-use Rattle.sparse_rules.specs.Cells.{fillByte}
-use Rattle.sparse_store_bytes.proofs.Filled.{Filled, filled-none, filled-more, filled-all}
+use lib.ListN.{length, getD}
+use Rattle.sparse_rules.specs.Cells.{tab, fillByte}
+use Rattle.sparse_store_bytes.proofs.Filled.{Filled, filled-none, filled-more, fill-again}
 use Rattle.sparse_store_bytes.proofs.put_fill.Statement.{statement}
 use Rattle.sparse_store_bytes.proofs.put_fill.Tie as tie
 
@@ -13,19 +14,10 @@ abbrev Inv-loop : tie.InvT-loop
 Inv-loop part₀ image at n i₀ part i = Filled (fillByte image at) (length part₀) part i
 
 abbrev μ-loop : tie.MeasureT-loop
-μ-loop part₀ image at n i₀ part i = length part₀ - i
+μ-loop part₀ image at n i₀ part i = n - i
 
-sub-if3 : tie.Need-sub-if3 Inv-loop μ-loop
-sub-if3 c = search needs
-
-repeat-requires : tie.Need-repeat-requires Inv-loop μ-loop
-repeat-requires c κs = search needs
-
-same-length : tie.Need-same-length Inv-loop μ-loop
-same-length c = search needs
-
-returns : tie.Need-returns Inv-loop μ-loop
-returns c = search needs
+among-first-requires : tie.Need-among-first-requires Inv-loop μ-loop
+among-first-requires c κs = search needs
 
 loop-holds : tie.Need-loop-holds Inv-loop μ-loop
 loop-holds c = filled-none _ _
@@ -34,7 +26,7 @@ byte-requires : tie.Need-byte-requires Inv-loop μ-loop
 byte-requires c κs = search needs
 
 slice-write-part : tie.Need-slice-write-part Inv-loop μ-loop
-slice-write-part c = search needs
+slice-write-part c = omega (arith, c .before .before .loop .inv .size, c .before .before .before .among-first .ensures)
 
 add-i : tie.Need-add-i Inv-loop μ-loop
 add-i c = search needs
@@ -43,13 +35,24 @@ loop-less : tie.Need-loop-less Inv-loop μ-loop
 loop-less c = search needs
 
 loop-again : tie.Need-loop-again Inv-loop μ-loop
-loop-again c = filled-more _ _ _ _ (c .before .before .loop .inv) _ (c .before .loop-test .taken) (c .byte .ensures)
+loop-again c = filled-more _ _ _ _ (c .before .before .loop .inv) _ (omega (arith, c .before .before .before .among-first .ensures)) (c .byte .ensures)
 
-same-length-2 : tie.Need-same-length-2 Inv-loop μ-loop
-same-length-2 c = c .before .loop .inv .size
+spread-requires : tie.Need-spread-requires Inv-loop μ-loop
+spread-requires c κs = search needs
 
-returns-2 : tie.Need-returns-2 Inv-loop μ-loop
-returns-2 c = filled-all _ _ _ _ (c .before .loop .inv) (c .loop-test .left)
+same-length : tie.Need-same-length Inv-loop μ-loop
+same-length c = search (needs, c .before .before .before .before .before .loop .inv .size)
+
+returns : tie.Need-returns Inv-loop μ-loop
+returns c =
+    let at-loop = c .before .before .before .before .before in
+    let l = at-loop .loop in
+    let first = at-loop .before .among-first .ensures in
+    let a = at-loop .before .before .before .before .args in
+    let below : (k : ℕ) → k < 16 → k < length (l .part) → getD (l .part) k 0 ≡ fillByte (a .image .now) (a .at) k =
+    λ k h m. l .inv .below k (omega (arith, first, l .inv .size, c .before .before .before .before .loop-test .left)) (omega (arith, l .inv .size)) in
+    c .before .before .spread .ensures (fillByte (a .image .now) (a .at)) below (fill-again (a .image .now) (a .at))
+    ∙ ap (tab (fillByte (a .image .now) (a .at)) 0) (l .inv .size)
 
 pub put-fill-spec : {M : Type 1} → statement M
 put-fill-spec =
@@ -57,15 +60,13 @@ put-fill-spec =
     (tie.spec
     Inv-loop
     μ-loop
-    sub-if3
-    repeat-requires
-    same-length
-    returns
+    among-first-requires
     loop-holds
     byte-requires
     slice-write-part
     add-i
     loop-less
     loop-again
-    same-length-2
-    returns-2)
+    spread-requires
+    same-length
+    returns)

@@ -5,11 +5,13 @@ use Rattle.sparse_stream.proofs.is_over.Tie as tie
 
 returns : tie.Need-returns
 returns c =
-    over-past (c .before .before .args .x .told .length) (c .before .before .args .x .come .bytes) (c .before .before .args .n) (c .if1 .taken)
+    let args = c .before .before .args in
+    over-past (args .x .told .length) (args .x .come .bytes) (args .n) (c .if1 .taken)
 
 returns-2 : tie.Need-returns-2
 returns-2 c =
-    over-more (c .before .before .before .args .x .told .length) (c .before .before .before .args .x .come .bytes) (c .before .before .before .args .n) (c .before .if1 .left)
+    let args = c .before .before .before .args in
+    over-more (args .x .told .length) (args .x .come .bytes) (args .n) (c .before .if1 .left)
 
 pub is-over-spec : {M : Type 1} → statement M
 is-over-spec = tie.close (tie.spec returns returns-2)

@@ -11,7 +11,8 @@ use Rattle.sparse_stream.proofs.judge_piece.Tie as tie
 
 returns : tie.Need-returns
 returns c =
-    called-again (pieceTests (c .before .before .before .args .x) (length (c .before .before .before .args .piece .now))) (c .before .before .before .args .x) _ (c .if1 .taken)
+    let args = c .before .before .before .args in
+    called-again (pieceTests (args .x) (length (args .piece .now))) (args .x) _ (c .if1 .taken)
 
 is-over-requires : tie.Need-is-over-requires
 is-over-requires c κs = search needs
@@ -21,7 +22,12 @@ refuse-requires c κs = search needs
 
 returns-2 : tie.Need-returns-2
 returns-2 c =
-    called-refused (pieceTests (c .before .before .before .before .before .before .args .x) (length (c .before .before .before .before .before .before .args .piece .now))) (c .before .before .before .before .before .before .args .x) (c .before .before .before .if1 .left) _ _ 13 (piece-over (c .before .before .before .before .before .before .args .x) (length (c .before .before .before .before .before .before .args .piece .now)) (c .before .before .is-over .result) (c .before .before .is-over .ensures) (c .before .if2 .taken)) (c .refuse .ensures)
+    let args = c .before .before .before .before .before .before .args in
+    let if1 = c .before .before .before .if1 in
+    let is-over = c .before .before .is-over in
+    called-refused (pieceTests (args .x) (length (args .piece .now))) (args .x) (if1 .left) _ _ 13
+    (piece-over (args .x) (length (args .piece .now)) (is-over .result) (is-over .ensures) (c .before .if2 .taken))
+    (c .refuse .ensures)
 
 opening-requires : tie.Need-opening-requires
 opening-requires c κs = search needs
@@ -37,7 +43,17 @@ feed-requires c κs = search needs
 
 returns-3 : tie.Need-returns-3
 returns-3 c =
-    let o = le-leb (c .before .before .before .opening .result .come .bytes + length (c .before .before .before .before .before .before .before .before .before .args .piece .now)) (c .before .before .before .opening .result .told .length) (over-room (c .before .before .before .before .before .before .before .before .before .args .x) (length (c .before .before .before .before .before .before .before .before .before .args .piece .now)) (c .before .before .before .before .before .is-over .result) (c .before .before .before .before .before .is-over .ensures) (c .before .before .before .before .if2 .left) (c .before .before .before .opening .result) (c .before .before .before .opening .ensures)) in called-on (pieceTests (c .before .before .before .before .before .before .before .before .before .args .x) (length (c .before .before .before .before .before .before .before .before .before .args .piece .now))) (c .before .before .before .before .before .before .before .before .before .args .x) (c .before .before .before .before .before .before .if1 .left) _ _ (piece-fits (c .before .before .before .before .before .before .before .before .before .args .x) (length (c .before .before .before .before .before .before .before .before .before .args .piece .now)) (c .before .before .before .before .before .is-over .result) (c .before .before .before .before .before .is-over .ensures) (c .before .before .before .before .if2 .left)) (c .before .feed .ensures .0 ∙ rw o (rw (c .before .before .before .opening .ensures)))
+    let at-opening = c .before .before .before in
+    let opening = at-opening .opening in
+    let is-over = at-opening .before .before .is-over in
+    let inside = at-opening .before .if2 .left in
+    let free = at-opening .before .before .before .if1 .left in
+    let a = at-opening .before .before .before .before .before .before .args in
+    let n = length (a .piece .now) in
+    let room = over-room (a .x) n (is-over .result) (is-over .ensures) inside (opening .result) (opening .ensures) in
+    let taken = le-leb (opening .result .come .bytes + n) (opening .result .told .length) room in
+    let fits = piece-fits (a .x) n (is-over .result) (is-over .ensures) inside in
+    called-on (pieceTests (a .x) n) (a .x) free _ _ fits (c .before .feed .ensures .0 ∙ rw taken (rw (opening .ensures)))
 
 pub judge-piece-spec : {M : Type 1} → statement M
 judge-piece-spec =

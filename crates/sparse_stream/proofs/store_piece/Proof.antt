@@ -4,21 +4,31 @@ use Prim.Native.Nat.{_+_}
 use lib.ListN.{length}
 use borrow.Author.Tests.{le-leb}
 use Rattle.sparse_stream_rules.specs.States.{lentTests}
-use Rattle.sparse_stream_rules.proofs.Calls.{called-again, called-refused, called-on, leaves-again, leaves-refused, leaves-on, lent-over, lent-fits, lent-other, over-room}
+use Rattle.sparse_stream_rules.proofs.Calls.{called-again, called-refused, called-on, leaves-again, leaves-refused, leaves-on}
+use Rattle.sparse_stream_rules.proofs.Calls.{lent-over, lent-fits, lent-other, over-room}
 use borrow.Author.Needs.{needs}
 use Rattle.sparse_stream.proofs.store_piece.Statement.{statement}
 use Rattle.sparse_stream.proofs.store_piece.Tie as tie
 
 returns : tie.Need-returns
 returns c =
-    (called-again (lentTests (c .before .before .before .before .args .x) (length (c .before .before .before .before .args .partition .now)) (length (c .before .before .before .before .args .piece .now))) (c .before .before .before .before .args .x) _ (c .if1 .taken), leaves-again (lentTests (c .before .before .before .before .args .x) (length (c .before .before .before .before .args .partition .now)) (length (c .before .before .before .before .args .piece .now))) (c .before .before .before .before .args .x) (c .before .before .before .before .args .partition .now) _ (c .if1 .taken))
+    let a = c .before .before .before .before .args in
+    let p = a .partition .now in
+    let tests = lentTests (a .x) (length p) (length (a .piece .now)) in
+    (called-again tests (a .x) _ (c .if1 .taken), leaves-again tests (a .x) p _ (c .if1 .taken))
 
 refuse-requires : tie.Need-refuse-requires
 refuse-requires c κs = search needs
 
 returns-2 : tie.Need-returns-2
 returns-2 c =
-    let o = lent-other (c .before .before .before .before .before .before .before .args .x) (length (c .before .before .before .before .before .before .before .args .partition .now)) (length (c .before .before .before .before .before .before .before .args .piece .now)) (c .before .if2 .taken) in (called-refused (lentTests (c .before .before .before .before .before .before .before .args .x) (length (c .before .before .before .before .before .before .before .args .partition .now)) (length (c .before .before .before .before .before .before .before .args .piece .now))) (c .before .before .before .before .before .before .before .args .x) (c .before .before .before .if1 .left) _ _ 15 o (c .refuse .ensures), leaves-refused (lentTests (c .before .before .before .before .before .before .before .args .x) (length (c .before .before .before .before .before .before .before .args .partition .now)) (length (c .before .before .before .before .before .before .before .args .piece .now))) (c .before .before .before .before .before .before .before .args .x) (c .before .before .before .if1 .left) (c .before .before .before .before .before .before .before .args .partition .now) _ 15 o)
+    let a = c .before .before .before .before .before .before .before .args in
+    let p = a .partition .now in
+    let n = length (a .piece .now) in
+    let tests = lentTests (a .x) (length p) n in
+    let free = c .before .before .before .if1 .left in
+    let other = lent-other (a .x) (length p) n (c .before .if2 .taken) in
+    (called-refused tests (a .x) free _ _ 15 other (c .refuse .ensures), leaves-refused tests (a .x) free p _ 15 other)
 
 is-over-requires : tie.Need-is-over-requires
 is-over-requires c κs = search needs
@@ -28,7 +38,15 @@ refuse-requires-2 c κs = search needs
 
 returns-3 : tie.Need-returns-3
 returns-3 c =
-    let o = lent-over (c .before .before .before .before .before .before .before .before .before .args .x) (length (c .before .before .before .before .before .before .before .before .before .args .piece .now)) (c .before .before .is-over .result) (c .before .before .is-over .ensures) (length (c .before .before .before .before .before .before .before .before .before .args .partition .now)) (c .before .before .before .if2 .left) (c .before .if3 .taken) in (called-refused (lentTests (c .before .before .before .before .before .before .before .before .before .args .x) (length (c .before .before .before .before .before .before .before .before .before .args .partition .now)) (length (c .before .before .before .before .before .before .before .before .before .args .piece .now))) (c .before .before .before .before .before .before .before .before .before .args .x) (c .before .before .before .before .before .if1 .left) _ _ 13 o (c .refuse2 .ensures), leaves-refused (lentTests (c .before .before .before .before .before .before .before .before .before .args .x) (length (c .before .before .before .before .before .before .before .before .before .args .partition .now)) (length (c .before .before .before .before .before .before .before .before .before .args .piece .now))) (c .before .before .before .before .before .before .before .before .before .args .x) (c .before .before .before .before .before .if1 .left) (c .before .before .before .before .before .before .before .before .before .args .partition .now) _ 13 o)
+    let is-over = c .before .before .is-over in
+    let same = c .before .before .before .if2 .left in
+    let free = c .before .before .before .before .before .if1 .left in
+    let a = c .before .before .before .before .before .before .before .before .before .args in
+    let p = a .partition .now in
+    let n = length (a .piece .now) in
+    let tests = lentTests (a .x) (length p) n in
+    let over = lent-over (a .x) n (is-over .result) (is-over .ensures) (length p) same (c .before .if3 .taken) in
+    (called-refused tests (a .x) free _ _ 13 over (c .refuse2 .ensures), leaves-refused tests (a .x) free p _ 13 over)
 
 opening-requires : tie.Need-opening-requires
 opening-requires c κs = search needs
@@ -41,7 +59,23 @@ same-length c = search needs
 
 returns-4 : tie.Need-returns-4
 returns-4 c =
-    let o = le-leb (c .before .before .before .before .opening .result .come .bytes + length (c .before .before .before .before .before .before .before .before .before .before .before .before .before .args .piece .now)) (c .before .before .before .before .opening .result .told .length) (over-room (c .before .before .before .before .before .before .before .before .before .before .before .before .before .args .x) (length (c .before .before .before .before .before .before .before .before .before .before .before .before .before .args .piece .now)) (c .before .before .before .before .before .before .is-over .result) (c .before .before .before .before .before .before .is-over .ensures) (c .before .before .before .before .before .if3 .left) (c .before .before .before .before .opening .result) (c .before .before .before .before .opening .ensures)) in let f = lent-fits (c .before .before .before .before .before .before .before .before .before .before .before .before .before .args .x) (length (c .before .before .before .before .before .before .before .before .before .before .before .before .before .args .piece .now)) (c .before .before .before .before .before .before .is-over .result) (c .before .before .before .before .before .before .is-over .ensures) (length (c .before .before .before .before .before .before .before .before .before .before .before .before .before .args .partition .now)) (c .before .before .before .before .before .before .before .if2 .left) (c .before .before .before .before .before .if3 .left) in (called-on (lentTests (c .before .before .before .before .before .before .before .before .before .before .before .before .before .args .x) (length (c .before .before .before .before .before .before .before .before .before .before .before .before .before .args .partition .now)) (length (c .before .before .before .before .before .before .before .before .before .before .before .before .before .args .piece .now))) (c .before .before .before .before .before .before .before .before .before .before .before .before .before .args .x) (c .before .before .before .before .before .before .before .before .before .if1 .left) _ _ f (c .before .before .feed .ensures .0 ∙ rw o (rw (c .before .before .before .before .opening .ensures))), leaves-on (lentTests (c .before .before .before .before .before .before .before .before .before .before .before .before .before .args .x) (length (c .before .before .before .before .before .before .before .before .before .before .before .before .before .args .partition .now)) (length (c .before .before .before .before .before .before .before .before .before .before .before .before .before .args .piece .now))) (c .before .before .before .before .before .before .before .before .before .before .before .before .before .args .x) (c .before .before .before .before .before .before .before .before .before .if1 .left) (c .before .before .before .before .before .before .before .before .before .before .before .before .before .args .partition .now) _ _ f (c .before .before .feed .ensures .1 ∙ rw o (rw (c .before .before .before .before .opening .ensures))))
+    let feed = c .before .before .feed in
+    let at-opening = c .before .before .before .before in
+    let opening = at-opening .opening in
+    let is-over = at-opening .before .before .is-over in
+    let inside = at-opening .before .if3 .left in
+    let same = at-opening .before .before .before .if2 .left in
+    let free = at-opening .before .before .before .before .before .if1 .left in
+    let a = at-opening .before .before .before .before .before .before .before .before .before .args in
+    let p = a .partition .now in
+    let n = length (a .piece .now) in
+    let tests = lentTests (a .x) (length p) n in
+    let room = over-room (a .x) n (is-over .result) (is-over .ensures) inside (opening .result) (opening .ensures) in
+    let taken = le-leb (opening .result .come .bytes + n) (opening .result .told .length) room in
+    let fits = lent-fits (a .x) n (is-over .result) (is-over .ensures) (length p) same inside in (
+      called-on tests (a .x) free _ _ fits (feed .ensures .0 ∙ rw taken (rw (opening .ensures))),
+      leaves-on tests (a .x) free p _ _ fits (feed .ensures .1 ∙ rw taken (rw (opening .ensures))),
+    )
 
 pub store-piece-spec : {M : Type 1} → statement M
 store-piece-spec =

@@ -5,7 +5,9 @@ use Rattle.sparse_stream.proofs.verdict.Statement.{statement}
 use Rattle.sparse_stream.proofs.verdict.Tie as tie
 
 returns : tie.Need-returns
-returns c = answer-refused (c .before .before .before .args .x) (c .before .if1 .taken)
+returns c =
+    let args = c .before .before .before .args in
+    answer-refused (args .x) (c .before .if1 .taken)
 
 cast-less : tie.Need-cast-less
 cast-less c = search needs
@@ -21,7 +23,8 @@ cast-t8 c = search needs
 
 returns-2 : tie.Need-returns-2
 returns-2 c =
-    answer-counts (c .before .before .before .before .args .x) (c .less .result) (c .before .before .if1 .left) (c .less .ensures)
+    let args = c .before .before .before .before .args in
+    answer-counts (args .x) (c .less .result) (c .before .before .if1 .left) (c .less .ensures)
 
 pub verdict-spec : {M : Type 1} → statement M
 verdict-spec = tie.close (tie.spec returns cast-less cast-less-2 less-requires cast-t8 returns-2)

@@ -10,11 +10,15 @@ use Rattle.sparse_stream_feed.proofs.feed.Tie as tie
 
 returns : tie.Need-returns
 returns c =
-    let o = lt-leb (c .before .before .before .before .args .x .come .bytes + length (c .before .before .before .before .args .piece .now)) (c .before .before .before .before .args .x .told .length) (omega (arith, c .if1 .taken)) in (rw o, rw o)
+    let args = c .before .before .before .before .args in
+    let o = lt-leb (args .x .come .bytes + length (args .piece .now)) (args .x .told .length) (omega (arith, c .if1 .taken)) in
+    (rw o, rw o)
 
 returns-2 : tie.Need-returns-2
 returns-2 c =
-    let o = lt-leb (c .before .before .before .before .before .before .args .x .come .bytes + length (c .before .before .before .before .before .before .args .piece .now)) (c .before .before .before .before .before .before .args .x .told .length) (omega (arith, c .before .before .if1 .left, c .if2 .taken)) in (rw o, rw o)
+    let args = c .before .before .before .before .before .before .args in
+    let o = lt-leb (args .x .come .bytes + length (args .piece .now)) (args .x .told .length)
+    (omega (arith, c .before .before .if1 .left, c .if2 .taken)) in (rw o, rw o)
 
 feed-all-requires : tie.Need-feed-all-requires
 feed-all-requires c κs = search needs
@@ -24,7 +28,12 @@ same-length c = search needs
 
 returns-3 : tie.Need-returns-3
 returns-3 c =
-    let o = le-leb (c .before .before .before .before .before .before .before .before .before .before .args .x .come .bytes + length (c .before .before .before .before .before .before .before .before .before .before .args .piece .now)) (c .before .before .before .before .before .before .before .before .before .before .args .x .told .length) (omega (arith, c .before .before .before .before .before .before .if1 .left, c .before .before .before .before .if2 .left)) in (c .before .before .feed-all .ensures .0 ∙ rw o, c .before .before .feed-all .ensures .1 ∙ rw o)
+    let args = c .before .before .before .before .before .before .before .before .before .before .args in
+    let if1 = c .before .before .before .before .before .before .if1 in
+    let if2 = c .before .before .before .before .if2 in
+    let feed-all = c .before .before .feed-all in
+    let o = le-leb (args .x .come .bytes + length (args .piece .now)) (args .x .told .length) (omega (arith, if1 .left, if2 .left))
+    in (feed-all .ensures .0 ∙ rw o, feed-all .ensures .1 ∙ rw o)
 
 pub feed-spec : {M : Type 1} → statement M
 feed-spec = tie.close (tie.spec returns returns-2 feed-all-requires same-length returns-3)

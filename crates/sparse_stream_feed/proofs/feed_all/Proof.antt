@@ -14,17 +14,24 @@ abbrev μ-loop : tie.MeasureT-loop
 
 loop-holds : tie.Need-loop-holds Inv-loop μ-loop
 loop-holds c =
-    going-start (c .before .before .args .x) (c .before .before .args .piece .now) (c .before .before .args .partition .now) (c .before .before .pre)
+    let args = c .before .before .args in
+    going-start (args .x) (args .piece .now) (args .partition .now) (c .before .before .pre)
 
 is-stuck-requires : tie.Need-is-stuck-requires Inv-loop μ-loop
 is-stuck-requires c κs = search needs
 
 same-length : tie.Need-same-length Inv-loop μ-loop
-same-length c = c .before .before .before .loop .inv .size
+same-length c =
+    let loop = c .before .before .before .loop in
+    loop .inv .size
 
 returns : tie.Need-returns Inv-loop μ-loop
 returns c =
-    going-stuck (c .before .before .before .before .before .before .args .x) (c .before .before .before .before .before .before .args .piece .now) (c .before .before .before .before .before .before .args .partition .now) _ (c .before .before .before .loop .partition) (c .before .before .before .loop .y) (c .before .before .before .loop .i) (c .before .before .before .loop .inv) (c .before .is-stuck .result) (c .before .is-stuck .ensures) (c .if1 .taken)
+    let args = c .before .before .before .before .before .before .args in
+    let loop = c .before .before .before .loop in
+    let is-stuck = c .before .is-stuck in
+    going-stuck (args .x) (args .piece .now) (args .partition .now) _ (loop .partition) (loop .y) (loop .i) (loop .inv)
+    (is-stuck .result) (is-stuck .ensures) (c .if1 .taken)
 
 sub-next-stretch : tie.Need-sub-next-stretch Inv-loop μ-loop
 sub-next-stretch c = search needs
@@ -34,7 +41,15 @@ next-stretch-requires c κs = search needs
 
 add-end : tie.Need-add-end Inv-loop μ-loop
 add-end c =
-    let t = going-turn (c .before .before .before .before .before .before .before .args .x) (c .before .before .before .before .before .before .before .args .piece .now) (c .before .before .before .before .before .before .before .args .partition .now) _ (c .before .before .before .before .loop .partition) (c .before .before .before .before .loop .y) (c .before .before .before .before .loop .i) (c .before .before .before .before .loop .inv) (c .next-stretch .result) (c .before .before .is-stuck .result) (c .before .before .before .loop-test .taken) (c .before .before .is-stuck .ensures) (c .before .if1 .left) (c .next-stretch .ensures) in let l = going-less (c .before .before .before .before .before .before .before .args .x) (c .before .before .before .before .before .before .before .args .piece .now) (c .before .before .before .before .before .before .before .args .partition .now) _ (c .before .before .before .before .loop .partition) (c .before .before .before .before .loop .y) (c .before .before .before .before .loop .i) (c .before .before .before .before .loop .inv) (c .next-stretch .result) t in omega (arith, l .1)
+    let args = c .before .before .before .before .before .before .before .args in
+    let loop = c .before .before .before .before .loop in
+    let loop-test = c .before .before .before .loop-test in
+    let is-stuck = c .before .before .is-stuck in
+    let t = going-turn (args .x) (args .piece .now) (args .partition .now) _ (loop .partition) (loop .y) (loop .i) (loop .inv)
+    (c .next-stretch .result) (is-stuck .result) (loop-test .taken) (is-stuck .ensures) (c .before .if1 .left)
+    (c .next-stretch .ensures) in
+    let l = going-less (args .x) (args .piece .now) (args .partition .now) _ (loop .partition) (loop .y) (loop .i) (loop .inv)
+    (c .next-stretch .result) t in omega (arith, l .1)
 
 sub-lay : tie.Need-sub-lay Inv-loop μ-loop
 sub-lay c = search needs
@@ -44,29 +59,67 @@ part-lay-start c = search needs
 
 part-lay-end : tie.Need-part-lay-end Inv-loop μ-loop
 part-lay-end c =
-    let t = going-turn (c .before .before .before .before .before .before .before .args .x) (c .before .before .before .before .before .before .before .args .piece .now) (c .before .before .before .before .before .before .before .args .partition .now) _ (c .before .before .before .before .loop .partition) (c .before .before .before .before .loop .y) (c .before .before .before .before .loop .i) (c .before .before .before .before .loop .inv) (c .next-stretch .result) (c .before .before .is-stuck .result) (c .before .before .before .loop-test .taken) (c .before .before .is-stuck .ensures) (c .before .if1 .left) (c .next-stretch .ensures) in let l = going-less (c .before .before .before .before .before .before .before .args .x) (c .before .before .before .before .before .before .before .args .piece .now) (c .before .before .before .before .before .before .before .args .partition .now) _ (c .before .before .before .before .loop .partition) (c .before .before .before .before .loop .y) (c .before .before .before .before .loop .i) (c .before .before .before .before .loop .inv) (c .next-stretch .result) t in omega (arith, l .1, c .before .before .before .before .loop .inv .long)
+    let args = c .before .before .before .before .before .before .before .args in
+    let loop = c .before .before .before .before .loop in
+    let loop-test = c .before .before .before .loop-test in
+    let is-stuck = c .before .before .is-stuck in
+    let t = going-turn (args .x) (args .piece .now) (args .partition .now) _ (loop .partition) (loop .y) (loop .i) (loop .inv)
+    (c .next-stretch .result) (is-stuck .result) (loop-test .taken) (is-stuck .ensures) (c .before .if1 .left)
+    (c .next-stretch .ensures) in
+    let l = going-less (args .x) (args .piece .now) (args .partition .now) _ (loop .partition) (loop .y) (loop .i) (loop .inv)
+    (c .next-stretch .result) t in omega (arith, l .1, loop .inv .long)
 
 lay-requires : tie.Need-lay-requires Inv-loop μ-loop
 lay-requires c κs = search needs
 
 turn-requires : tie.Need-turn-requires Inv-loop μ-loop
 turn-requires c κs =
-    let t = going-turn (c .before .before .before .before .before .before .before .before .before .before .before .before .args .x) (c .before .before .before .before .before .before .before .before .before .before .before .before .args .piece .now) (c .before .before .before .before .before .before .before .before .before .before .before .before .args .partition .now) _ (c .before .before .before .before .before .before .before .before .before .loop .partition) (c .before .before .before .before .before .before .before .before .before .loop .y) (c .before .before .before .before .before .before .before .before .before .loop .i) (c .before .before .before .before .before .before .before .before .before .loop .inv) (c .before .before .before .before .before .next-stretch .result) (c .before .before .before .before .before .before .before .is-stuck .result) (c .before .before .before .before .before .before .before .before .loop-test .taken) (c .before .before .before .before .before .before .before .is-stuck .ensures) (c .before .before .before .before .before .before .if1 .left) (c .before .before .before .before .before .next-stretch .ensures) in (t, going-fits (c .before .before .before .before .before .before .before .before .before .before .before .before .args .x) (c .before .before .before .before .before .before .before .before .before .before .before .before .args .piece .now) (c .before .before .before .before .before .before .before .before .before .before .before .before .args .partition .now) _ (c .before .before .before .before .before .before .before .before .before .loop .partition) (c .before .before .before .before .before .before .before .before .before .loop .y) (c .before .before .before .before .before .before .before .before .before .loop .i) (c .before .before .before .before .before .before .before .before .before .loop .inv) (c .before .before .before .before .before .next-stretch .result) t)
+    let args = c .before .before .before .before .before .before .before .before .before .before .before .before .args in
+    let loop = c .before .before .before .before .before .before .before .before .before .loop in
+    let loop-test = c .before .before .before .before .before .before .before .before .loop-test in
+    let is-stuck = c .before .before .before .before .before .before .before .is-stuck in
+    let if1 = c .before .before .before .before .before .before .if1 in
+    let next-stretch = c .before .before .before .before .before .next-stretch in
+    let t = going-turn (args .x) (args .piece .now) (args .partition .now) _ (loop .partition) (loop .y) (loop .i) (loop .inv)
+    (next-stretch .result) (is-stuck .result) (loop-test .taken) (is-stuck .ensures) (if1 .left) (next-stretch .ensures) in
+    (t, going-fits (args .x) (args .piece .now) (args .partition .now) _ (loop .partition) (loop .y) (loop .i) (loop .inv) (next-stretch .result) t)
 
 loop-less : tie.Need-loop-less Inv-loop μ-loop
 loop-less c =
-    let t = going-turn (c .before .before .before .before .before .before .before .before .before .before .before .before .before .args .x) (c .before .before .before .before .before .before .before .before .before .before .before .before .before .args .piece .now) (c .before .before .before .before .before .before .before .before .before .before .before .before .before .args .partition .now) _ (c .before .before .before .before .before .before .before .before .before .before .loop .partition) (c .before .before .before .before .before .before .before .before .before .before .loop .y) (c .before .before .before .before .before .before .before .before .before .before .loop .i) (c .before .before .before .before .before .before .before .before .before .before .loop .inv) (c .before .before .before .before .before .before .next-stretch .result) (c .before .before .before .before .before .before .before .before .is-stuck .result) (c .before .before .before .before .before .before .before .before .before .loop-test .taken) (c .before .before .before .before .before .before .before .before .is-stuck .ensures) (c .before .before .before .before .before .before .before .if1 .left) (c .before .before .before .before .before .before .next-stretch .ensures) in let l = going-less (c .before .before .before .before .before .before .before .before .before .before .before .before .before .args .x) (c .before .before .before .before .before .before .before .before .before .before .before .before .before .args .piece .now) (c .before .before .before .before .before .before .before .before .before .before .before .before .before .args .partition .now) _ (c .before .before .before .before .before .before .before .before .before .before .loop .partition) (c .before .before .before .before .before .before .before .before .before .before .loop .y) (c .before .before .before .before .before .before .before .before .before .before .loop .i) (c .before .before .before .before .before .before .before .before .before .before .loop .inv) (c .before .before .before .before .before .before .next-stretch .result) t in omega (arith, l .0, l .1)
+    let args = c .before .before .before .before .before .before .before .before .before .before .before .before .before .args in
+    let loop = c .before .before .before .before .before .before .before .before .before .before .loop in
+    let loop-test = c .before .before .before .before .before .before .before .before .before .loop-test in
+    let is-stuck = c .before .before .before .before .before .before .before .before .is-stuck in
+    let if1 = c .before .before .before .before .before .before .before .if1 in
+    let next-stretch = c .before .before .before .before .before .before .next-stretch in
+    let t = going-turn (args .x) (args .piece .now) (args .partition .now) _ (loop .partition) (loop .y) (loop .i) (loop .inv)
+    (next-stretch .result) (is-stuck .result) (loop-test .taken) (is-stuck .ensures) (if1 .left) (next-stretch .ensures) in
+    let l = going-less (args .x) (args .piece .now) (args .partition .now) _ (loop .partition) (loop .y) (loop .i) (loop .inv)
+    (next-stretch .result) t in omega (arith, l .0, l .1)
 
 loop-again : tie.Need-loop-again Inv-loop μ-loop
 loop-again c =
-    let t = going-turn (c .before .before .before .before .before .before .before .before .before .before .before .before .before .args .x) (c .before .before .before .before .before .before .before .before .before .before .before .before .before .args .piece .now) (c .before .before .before .before .before .before .before .before .before .before .before .before .before .args .partition .now) _ (c .before .before .before .before .before .before .before .before .before .before .loop .partition) (c .before .before .before .before .before .before .before .before .before .before .loop .y) (c .before .before .before .before .before .before .before .before .before .before .loop .i) (c .before .before .before .before .before .before .before .before .before .before .loop .inv) (c .before .before .before .before .before .before .next-stretch .result) (c .before .before .before .before .before .before .before .before .is-stuck .result) (c .before .before .before .before .before .before .before .before .before .loop-test .taken) (c .before .before .before .before .before .before .before .before .is-stuck .ensures) (c .before .before .before .before .before .before .before .if1 .left) (c .before .before .before .before .before .before .next-stretch .ensures) in going-on (c .before .before .before .before .before .before .before .before .before .before .before .before .before .args .x) (c .before .before .before .before .before .before .before .before .before .before .before .before .before .args .piece .now) (c .before .before .before .before .before .before .before .before .before .before .before .before .before .args .partition .now) _ (c .before .before .before .before .before .before .before .before .before .before .loop .partition) (c .before .before .before .before .before .before .before .before .before .before .loop .y) (c .before .before .before .before .before .before .before .before .before .before .loop .i) (c .before .before .before .before .before .before .before .before .before .before .loop .inv) (c .before .before .before .before .before .before .next-stretch .result) _ _ t (c .turn .ensures) (c .before .before .before .lay .ensures)
+    let args = c .before .before .before .before .before .before .before .before .before .before .before .before .before .args in
+    let loop = c .before .before .before .before .before .before .before .before .before .before .loop in
+    let loop-test = c .before .before .before .before .before .before .before .before .before .loop-test in
+    let is-stuck = c .before .before .before .before .before .before .before .before .is-stuck in
+    let if1 = c .before .before .before .before .before .before .before .if1 in
+    let next-stretch = c .before .before .before .before .before .before .next-stretch in
+    let lay = c .before .before .before .lay in
+    let t = going-turn (args .x) (args .piece .now) (args .partition .now) _ (loop .partition) (loop .y) (loop .i) (loop .inv)
+    (next-stretch .result) (is-stuck .result) (loop-test .taken) (is-stuck .ensures) (if1 .left) (next-stretch .ensures) in going-on
+    (args .x) (args .piece .now) (args .partition .now) _ (loop .partition) (loop .y) (loop .i) (loop .inv) (next-stretch .result) _
+    _ t (c .turn .ensures) (lay .ensures)
 
 same-length-2 : tie.Need-same-length-2 Inv-loop μ-loop
 same-length-2 c = c .before .loop .inv .size
 
 returns-2 : tie.Need-returns-2 Inv-loop μ-loop
 returns-2 c =
-    going-done (c .before .before .before .before .args .x) (c .before .before .before .before .args .piece .now) (c .before .before .before .before .args .partition .now) _ (c .before .loop .partition) (c .before .loop .y) (c .before .loop .i) (c .before .loop .inv) (c .loop-test .left)
+    let args = c .before .before .before .before .args in
+    let loop = c .before .loop in
+    going-done (args .x) (args .piece .now) (args .partition .now) _ (loop .partition) (loop .y) (loop .i) (loop .inv)
+    (c .loop-test .left)
 
 pub feed-all-spec : {M : Type 1} → statement M
 feed-all-spec =

@@ -27,7 +27,8 @@ enum-told-4 c = search needs
 
 returns : tie.Need-returns
 returns c =
-    c .least .ensures ∙ rw (c .before .before .span-now .ensures, c .before .end-now .ensures, c .before .before .before .enum-told .given .1)
+    let enum-told = c .before .before .before .enum-told in
+    c .least .ensures ∙ rw (c .before .before .span-now .ensures, c .before .end-now .ensures, enum-told .given .1)
 
 returns-2 : tie.Need-returns-2
 returns-2 c =

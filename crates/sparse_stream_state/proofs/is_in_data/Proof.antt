@@ -24,7 +24,10 @@ data-bytes-requires c κs = search needs
 returns-2 : tie.Need-returns-2
 unfolding inData
 returns-2 c =
-    rw (sym (c .before .before .before .before .before .before .is-stuck .ensures) ∙ c .before .before .before .before .before .if1 .left, c .before .gap-now .ensures, c .data-bytes .ensures, c .before .before .before .before .kind-now .ensures)
+    let is-stuck = c .before .before .before .before .before .before .is-stuck in
+    let if1 = c .before .before .before .before .before .if1 in
+    let kind-now = c .before .before .before .before .kind-now in
+    rw (sym (is-stuck .ensures) ∙ if1 .left, c .before .gap-now .ensures, c .data-bytes .ensures, kind-now .ensures)
 
 pub is-in-data-spec : {M : Type 1} → statement M
 is-in-data-spec =

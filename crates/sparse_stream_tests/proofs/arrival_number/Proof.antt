@@ -12,37 +12,67 @@ read-header-requires c κs = search needs
 
 returns : tie.Need-returns
 returns c =
-    arrival-past (c .before .before .before .before .before .before .before .args .x) (c .before .before .before .before .read-header .result) (c .before .before .before .before .read-header .ensures) (c .before .before .if1 .taken) (c .if2 .taken)
+    let args = c .before .before .before .before .before .before .before .args in
+    let read-header = c .before .before .before .before .read-header in
+    arrival-past (args .x) (read-header .result) (read-header .ensures) (c .before .before .if1 .taken) (c .if2 .taken)
 
 cast-if3 : tie.Need-cast-if3
 cast-if3 c = search needs
 
 returns-2 : tie.Need-returns-2
 returns-2 c =
-    arrival-short (c .before .before .before .before .before .before .before .before .before .before .args .x) (c .before .before .before .before .before .before .before .read-header .result) (c .before .before .before .before .before .before .before .read-header .ensures) (c .before .before .before .before .before .if1 .taken) (c .before .before .before .if2 .left) (c .if3 .taken)
+    let args = c .before .before .before .before .before .before .before .before .before .before .args in
+    let read-header = c .before .before .before .before .before .before .before .read-header in
+    let if1 = c .before .before .before .before .before .if1 in
+    let if2 = c .before .before .before .if2 in
+    arrival-short (args .x) (read-header .result) (read-header .ensures) (if1 .taken) (if2 .left) (c .if3 .taken)
 
 returns-3 : tie.Need-returns-3
 returns-3 c =
-    arrival-chunk (c .before .before .before .before .before .before .before .before .before .before .args .x) (c .before .before .before .before .before .before .before .read-header .result) (c .before .before .before .before .before .before .before .read-header .ensures) (c .before .before .before .before .before .if1 .taken) (c .before .before .before .if2 .left) (c .if3 .left)
+    let args = c .before .before .before .before .before .before .before .before .before .before .args in
+    let read-header = c .before .before .before .before .before .before .before .read-header in
+    let if1 = c .before .before .before .before .before .if1 in
+    let if2 = c .before .before .before .if2 in
+    arrival-chunk (args .x) (read-header .result) (read-header .ensures) (if1 .taken) (if2 .left) (c .if3 .left)
 
 returns-4 : tie.Need-returns-4
 returns-4 c =
-    arrival-fell (c .before .before .before .before .before .before .before .before .args .x) (c .before .before .before .before .before .read-header .result) (c .before .before .before .before .before .read-header .ensures) (c .before .before .before .if1 .left) (c .if4 .taken)
+    let args = c .before .before .before .before .before .before .before .before .args in
+    let read-header = c .before .before .before .before .before .read-header in
+    let if1 = c .before .before .before .if1 in
+    arrival-fell (args .x) (read-header .result) (read-header .ensures) (if1 .left) (c .if4 .taken)
 
 returns-5 : tie.Need-returns-5
 returns-5 c =
-    arrival-more (c .before .before .before .before .before .before .before .before .before .before .args .x) (c .before .before .before .before .before .before .before .read-header .result) (c .before .before .before .before .before .before .before .read-header .ensures) (c .before .before .before .before .before .if1 .left) (c .before .before .if4 .left) (c .if5 .taken)
+    let args = c .before .before .before .before .before .before .before .before .before .before .args in
+    let read-header = c .before .before .before .before .before .before .before .read-header in
+    let if1 = c .before .before .before .before .before .if1 in
+    arrival-more (args .x) (read-header .result) (read-header .ensures) (if1 .left) (c .before .before .if4 .left) (c .if5 .taken)
 
 finish-requires : tie.Need-finish-requires
 finish-requires c κs = search needs
 
 returns-6 : tie.Need-returns-6
 returns-6 c =
-    arrival-sum (c .before .before .before .before .before .before .before .before .before .before .before .before .before .args .x) (c .before .before .before .before .before .before .before .before .before .before .read-header .result) (c .before .before .before .before .before .before .before .before .before .before .read-header .ensures) (c .before .before .before .before .before .before .before .before .if1 .left) (c .before .before .before .before .before .if4 .left) (c .before .before .before .if5 .left) (c .before .before .finish .result) (c .before .before .finish .ensures) (c .if6 .taken)
+    let args = c .before .before .before .before .before .before .before .before .before .before .before .before .before .args in
+    let read-header = c .before .before .before .before .before .before .before .before .before .before .read-header in
+    let if1 = c .before .before .before .before .before .before .before .before .if1 in
+    let if4 = c .before .before .before .before .before .if4 in
+    let if5 = c .before .before .before .if5 in
+    let finish = c .before .before .finish in
+    arrival-sum (args .x) (read-header .result) (read-header .ensures) (if1 .left) (if4 .left) (if5 .left) (finish .result)
+    (finish .ensures) (c .if6 .taken)
 
 returns-7 : tie.Need-returns-7
 returns-7 c =
-    arrival-whole (c .before .before .before .before .before .before .before .before .before .before .before .before .before .args .x) (c .before .before .before .before .before .before .before .before .before .before .read-header .result) (c .before .before .before .before .before .before .before .before .before .before .read-header .ensures) (c .before .before .before .before .before .before .before .before .if1 .left) (c .before .before .before .before .before .if4 .left) (c .before .before .before .if5 .left) (c .before .before .finish .result) (c .before .before .finish .ensures) (c .if6 .left)
+    let args = c .before .before .before .before .before .before .before .before .before .before .before .before .before .args in
+    let read-header = c .before .before .before .before .before .before .before .before .before .before .read-header in
+    let if1 = c .before .before .before .before .before .before .before .before .if1 in
+    let if4 = c .before .before .before .before .before .if4 in
+    let if5 = c .before .before .before .if5 in
+    let finish = c .before .before .finish in
+    arrival-whole (args .x) (read-header .result) (read-header .ensures) (if1 .left) (if4 .left) (if5 .left) (finish .result)
+    (finish .ensures) (c .if6 .left)
 
 pub arrival-number-spec : {M : Type 1} → statement M
 arrival-number-spec =

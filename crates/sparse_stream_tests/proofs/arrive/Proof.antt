@@ -15,7 +15,8 @@ refuse-requires c κs = search needs
 returns : tie.Need-returns
 unfolding arrived
 returns c =
-    c .refuse .ensures ∙ rw (← (c .before .before .arrival-number .ensures), eq-eqb (c .before .before .arrival-number .result) 11 (c .before .if1 .taken))
+    let arrival-number = c .before .before .arrival-number in
+    c .refuse .ensures ∙ rw (← (arrival-number .ensures), eq-eqb (arrival-number .result) 11 (c .before .if1 .taken))
 
 refuse-requires-2 : tie.Need-refuse-requires-2
 refuse-requires-2 c κs = search needs
@@ -23,7 +24,8 @@ refuse-requires-2 c κs = search needs
 returns-2 : tie.Need-returns-2
 unfolding arrived
 returns-2 c =
-    c .refuse2 .ensures ∙ rw (← (c .before .before .arrival-number .ensures), ne-eqb (c .before .before .arrival-number .result) 11 (c .before .if1 .left))
+    let arrival-number = c .before .before .arrival-number in
+    c .refuse2 .ensures ∙ rw (← (arrival-number .ensures), ne-eqb (arrival-number .result) 11 (c .before .if1 .left))
 
 pub arrive-spec : {M : Type 1} → statement M
 arrive-spec =

@@ -24,14 +24,31 @@ size-right-requires c κs = search needs
 
 returns : tie.Need-returns
 returns c =
-    chunk-past (c .before .before .before .before .before .before .before .before .before .before .args .x) (c .before .before .before .before .before .before .before .read-header .result) (c .before .before .before .before .kind-now .result) (c .before .before .before .before .before .before .blocks-now .result) (c .before .before .before .before .before .size-now .result) (c .before .before .before .before .before .before .before .read-header .ensures) (c .before .before .before .before .kind-now .ensures) (c .before .before .before .before .before .before .blocks-now .ensures) (c .before .before .before .before .before .size-now .ensures) (c .before .before .before .size-right .result) (c .before .before .before .size-right .ensures) (c .before .before .if1 .taken) (c .if2 .taken)
+    let args = c .before .before .before .before .before .before .before .before .before .before .args in
+    let read-header = c .before .before .before .before .before .before .before .read-header in
+    let blocks-now = c .before .before .before .before .before .before .blocks-now in
+    let size-now = c .before .before .before .before .before .size-now in
+    let kind-now = c .before .before .before .before .kind-now in
+    let size-right = c .before .before .before .size-right in
+    chunk-past (args .x) (read-header .result) (kind-now .result) (blocks-now .result) (size-now .result) (read-header .ensures)
+    (kind-now .ensures) (blocks-now .ensures) (size-now .ensures) (size-right .result) (size-right .ensures)
+    (c .before .before .if1 .taken) (c .if2 .taken)
 
 cast-if3 : tie.Need-cast-if3
 cast-if3 c = search needs
 
 returns-2 : tie.Need-returns-2
 returns-2 c =
-    chunk-short (c .before .before .before .before .before .before .before .before .before .before .before .before .args .x) (c .before .before .before .before .before .before .before .before .before .read-header .result) (c .before .before .before .before .before .before .kind-now .result) (c .before .before .before .before .before .before .before .before .blocks-now .result) (c .before .before .before .before .before .before .before .size-now .result) (c .before .before .before .before .before .before .before .before .before .read-header .ensures) (c .before .before .before .before .before .before .kind-now .ensures) (c .before .before .before .before .before .before .before .before .blocks-now .ensures) (c .before .before .before .before .before .before .before .size-now .ensures) (c .before .before .before .before .before .size-right .result) (c .before .before .before .before .before .size-right .ensures) (c .before .before .before .before .if1 .taken) (c .before .before .if2 .left) (c .if3 .taken)
+    let args = c .before .before .before .before .before .before .before .before .before .before .before .before .args in
+    let read-header = c .before .before .before .before .before .before .before .before .before .read-header in
+    let blocks-now = c .before .before .before .before .before .before .before .before .blocks-now in
+    let size-now = c .before .before .before .before .before .before .before .size-now in
+    let kind-now = c .before .before .before .before .before .before .kind-now in
+    let size-right = c .before .before .before .before .before .size-right in
+    let if1 = c .before .before .before .before .if1 in
+    chunk-short (args .x) (read-header .result) (kind-now .result) (blocks-now .result) (size-now .result) (read-header .ensures)
+    (kind-now .ensures) (blocks-now .ensures) (size-now .ensures) (size-right .result) (size-right .ensures) (if1 .taken)
+    (c .before .before .if2 .left) (c .if3 .taken)
 
 cast-if4 : tie.Need-cast-if4
 cast-if4 c = search needs
@@ -47,15 +64,48 @@ add-if4 c = search needs
 
 returns-3 : tie.Need-returns-3
 returns-3 c =
-    chunk-over (c .before .before .before .before .before .before .before .before .before .before .before .before .before .before .before .args .x) (c .before .before .before .before .before .before .before .before .before .before .before .before .read-header .result) (c .before .before .before .before .before .before .before .before .before .kind-now .result) (c .before .before .before .before .before .before .before .before .before .before .before .blocks-now .result) (c .before .before .before .before .before .before .before .before .before .before .size-now .result) (c .before .before .before .before .before .before .before .before .before .before .before .before .read-header .ensures) (c .before .before .before .before .before .before .before .before .before .kind-now .ensures) (c .before .before .before .before .before .before .before .before .before .before .before .blocks-now .ensures) (c .before .before .before .before .before .before .before .before .before .before .size-now .ensures) (c .before .before .before .before .before .before .before .before .size-right .result) (c .before .before .before .before .before .before .before .before .size-right .ensures) (c .before .before .before .before .before .before .before .if1 .taken) (c .before .before .before .before .before .if2 .left) (c .before .before .before .if3 .left) (c .if4 .taken)
+    let args = c .before .before .before .before .before .before .before .before .before .before .before .before .before .before
+    .before .args in
+    let read-header = c .before .before .before .before .before .before .before .before .before .before .before .before .read-header
+    in
+    let blocks-now = c .before .before .before .before .before .before .before .before .before .before .before .blocks-now in
+    let size-now = c .before .before .before .before .before .before .before .before .before .before .size-now in
+    let kind-now = c .before .before .before .before .before .before .before .before .before .kind-now in
+    let size-right = c .before .before .before .before .before .before .before .before .size-right in
+    let if1 = c .before .before .before .before .before .before .before .if1 in
+    let if2 = c .before .before .before .before .before .if2 in
+    let if3 = c .before .before .before .if3 in
+    chunk-over (args .x) (read-header .result) (kind-now .result) (blocks-now .result) (size-now .result) (read-header .ensures)
+    (kind-now .ensures) (blocks-now .ensures) (size-now .ensures) (size-right .result) (size-right .ensures) (if1 .taken)
+    (if2 .left) (if3 .left) (c .if4 .taken)
 
 returns-4 : tie.Need-returns-4
 returns-4 c =
-    chunk-right (c .before .before .before .before .before .before .before .before .before .before .before .before .before .before .before .args .x) (c .before .before .before .before .before .before .before .before .before .before .before .before .read-header .result) (c .before .before .before .before .before .before .before .before .before .kind-now .result) (c .before .before .before .before .before .before .before .before .before .before .before .blocks-now .result) (c .before .before .before .before .before .before .before .before .before .before .size-now .result) (c .before .before .before .before .before .before .before .before .before .before .before .before .read-header .ensures) (c .before .before .before .before .before .before .before .before .before .kind-now .ensures) (c .before .before .before .before .before .before .before .before .before .before .before .blocks-now .ensures) (c .before .before .before .before .before .before .before .before .before .before .size-now .ensures) (c .before .before .before .before .before .before .before .before .size-right .result) (c .before .before .before .before .before .before .before .before .size-right .ensures) (c .before .before .before .before .before .before .before .if1 .taken) (c .before .before .before .before .before .if2 .left) (c .before .before .before .if3 .left) (c .if4 .left)
+    let args = c .before .before .before .before .before .before .before .before .before .before .before .before .before .before
+    .before .args in
+    let read-header = c .before .before .before .before .before .before .before .before .before .before .before .before .read-header
+    in
+    let blocks-now = c .before .before .before .before .before .before .before .before .before .before .before .blocks-now in
+    let size-now = c .before .before .before .before .before .before .before .before .before .before .size-now in
+    let kind-now = c .before .before .before .before .before .before .before .before .before .kind-now in
+    let size-right = c .before .before .before .before .before .before .before .before .size-right in
+    let if1 = c .before .before .before .before .before .before .before .if1 in
+    let if2 = c .before .before .before .before .before .if2 in
+    let if3 = c .before .before .before .if3 in
+    chunk-right (args .x) (read-header .result) (kind-now .result) (blocks-now .result) (size-now .result) (read-header .ensures)
+    (kind-now .ensures) (blocks-now .ensures) (size-now .ensures) (size-right .result) (size-right .ensures) (if1 .taken)
+    (if2 .left) (if3 .left) (c .if4 .left)
 
 returns-5 : tie.Need-returns-5
 returns-5 c =
-    chunk-wrong (c .before .before .before .before .before .before .before .before .args .x) (c .before .before .before .before .before .read-header .result) (c .before .before .kind-now .result) (c .before .before .before .before .blocks-now .result) (c .before .before .before .size-now .result) (c .before .before .before .before .before .read-header .ensures) (c .before .before .kind-now .ensures) (c .before .before .before .before .blocks-now .ensures) (c .before .before .before .size-now .ensures) (c .before .size-right .result) (c .before .size-right .ensures) (c .if1 .left)
+    let args = c .before .before .before .before .before .before .before .before .args in
+    let read-header = c .before .before .before .before .before .read-header in
+    let blocks-now = c .before .before .before .before .blocks-now in
+    let size-now = c .before .before .before .size-now in
+    let kind-now = c .before .before .kind-now in
+    let size-right = c .before .size-right in
+    chunk-wrong (args .x) (read-header .result) (kind-now .result) (blocks-now .result) (size-now .result) (read-header .ensures)
+    (kind-now .ensures) (blocks-now .ensures) (size-now .ensures) (size-right .result) (size-right .ensures) (c .if1 .left)
 
 pub chunk-number-spec : {M : Type 1} → statement M
 chunk-number-spec =

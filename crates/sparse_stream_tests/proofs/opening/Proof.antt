@@ -15,7 +15,9 @@ refuse-requires c κs = search needs
 returns : tie.Need-returns
 unfolding opened
 returns c =
-    c .refuse .ensures ∙ rw (eq-eqb (c .before .before .before .before .before .before .args .x .come .bytes) 0 (c .before .before .before .before .if1 .taken), c .before .header-number .ensures)
+    let args = c .before .before .before .before .before .before .args in
+    let if1 = c .before .before .before .before .if1 in
+    c .refuse .ensures ∙ rw (eq-eqb (args .x .come .bytes) 0 (if1 .taken), c .before .header-number .ensures)
 
 returns-2 : tie.Need-returns-2
 unfolding opened

@@ -10,7 +10,8 @@ returns c = search needs
 
 returns-2 : tie.Need-returns-2
 returns-2 c =
-    sym (stop-number (c .before .args .number) (c .before .args .place) (c .before .args .x) (c .before .args .x) (c .if1 .left))
+    let args = c .before .args in
+    sym (stop-number (args .number) (args .place) (args .x) (args .x) (c .if1 .left))
 
 pub refuse-spec : {M : Type 1} → statement M
 refuse-spec = tie.close (tie.spec returns returns-2)

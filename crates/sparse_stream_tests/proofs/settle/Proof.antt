@@ -10,7 +10,8 @@ arrive-requires c κs = search needs
 
 returns : tie.Need-returns
 returns c =
-    c .arrive .ensures ∙ sym (settled-there (c .before .before .before .args .x) (c .before .if1 .taken))
+    let args = c .before .before .before .args in
+    c .arrive .ensures ∙ sym (settled-there (args .x) (c .before .if1 .taken))
 
 returns-2 : tie.Need-returns-2
 returns-2 c =

@@ -24,7 +24,9 @@ advance-requires : tie.Need-advance-requires
 advance-requires c κs = search needs
 
 returns : tie.Need-returns
-returns c = c .advance .ensures ∙ rw (c .before .update .ensures, back (c .before .before .before .before .args .i) (c .before .before .before .before .args .n))
+returns c =
+    let args = c .before .before .before .before .args in
+    c .advance .ensures ∙ rw (c .before .update .ensures, back (args .i) (args .n))
 
 pub take-raw-spec : {M : Type 1} → statement M
 take-raw-spec =

@@ -19,21 +19,29 @@ fill-sum-requires c κs = search needs
 
 advance-requires : tie.Need-advance-requires
 advance-requires c κs =
-    rw (c .before .before .before .keep-word .ensures) (omega (arith, c .before .before .before .before .pre .2))
+    let pre = c .before .before .before .before .pre in
+    let keep-word = c .before .before .before .keep-word in
+    rw (keep-word .ensures) (omega (arith, pre .2))
 
 returns : tie.Need-returns
 unfolding worded
 returns c =
-    c .advance .ensures ∙ rw (c .before .fill-sum .ensures, c .before .before .before .before .keep-word .ensures, eq-eqb (c .before .before .before .before .before .args .x .walk .next .at - c .before .before .before .before .before .args .x .come .bytes) 1 (c .before .before .if1 .taken))
+    let args = c .before .before .before .before .before .args in
+    let keep-word = c .before .before .before .before .keep-word in
+    c .advance .ensures ∙ rw
+    (c .before .fill-sum .ensures, keep-word .ensures, eq-eqb (args .x .walk .next .at - args .x .come .bytes) 1 (c .before .before .if1 .taken))
 
 advance-requires-2 : tie.Need-advance-requires-2
 advance-requires-2 c κs =
-    rw (c .before .before .keep-word .ensures) (omega (arith, c .before .before .before .pre .2))
+    let pre = c .before .before .before .pre in
+    rw (c .before .before .keep-word .ensures) (omega (arith, pre .2))
 
 returns-2 : tie.Need-returns-2
 unfolding worded
 returns-2 c =
-    c .advance2 .ensures ∙ rw (c .before .before .before .keep-word .ensures, ne-eqb (c .before .before .before .before .args .x .walk .next .at - c .before .before .before .before .args .x .come .bytes) 1 (c .before .if1 .left))
+    let args = c .before .before .before .before .args in
+    let keep-word = c .before .before .before .keep-word in
+    c .advance2 .ensures ∙ rw (keep-word .ensures, ne-eqb (args .x .walk .next .at - args .x .come .bytes) 1 (c .before .if1 .left))
 
 pub take-word-spec : {M : Type 1} → statement M
 take-word-spec =

@@ -22,12 +22,15 @@ take-chunk-requires c κs = search needs
 returns : tie.Need-returns
 unfolding gathered
 returns c =
-    c .take-chunk .ensures ∙ rw (c .before .before .keep .ensures, eq-eqb (c .before .before .before .before .before .args .x .come .bytes - c .before .before .before .before .before .args .x .walk .next .at) 11 (c .before .if1 .taken))
+    let args = c .before .before .before .before .before .args in
+    c .take-chunk .ensures ∙ rw
+    (c .before .before .keep .ensures, eq-eqb (args .x .come .bytes - args .x .walk .next .at) 11 (c .before .if1 .taken))
 
 returns-2 : tie.Need-returns-2
 unfolding gathered
 returns-2 c =
-    c .before .keep .ensures ∙ rw (ne-eqb (c .before .before .before .before .args .x .come .bytes - c .before .before .before .before .args .x .walk .next .at) 11 (c .if1 .left))
+    let args = c .before .before .before .before .args in
+    c .before .keep .ensures ∙ rw (ne-eqb (args .x .come .bytes - args .x .walk .next .at) 11 (c .if1 .left))
 
 pub gather-spec : {M : Type 1} → statement M
 gather-spec =

@@ -18,10 +18,17 @@ cast-less : tie.Need-cast-less
 cast-less c = search needs
 
 add-less : tie.Need-add-less
-add-less c = let f = chunk-fits (c .before .before .before .before .args .x) (c .before .before .before .before .pre .0) in omega (arith, f .0, c .before .size-now .ensures)
+add-less c =
+    let args = c .before .before .before .before .args in
+    let pre = c .before .before .before .before .pre in
+    let f = chunk-fits (args .x) (pre .0) in omega (arith, f .0, c .before .size-now .ensures)
 
 add-t12 : tie.Need-add-t12
-add-t12 c = let f = chunk-fits (c .before .before .before .before .before .args .x) (c .before .before .before .before .before .pre .0) in omega (arith, f .1, c .before .before .before .blocks-now .ensures, c .before .before .before .before .before .pre .1)
+add-t12 c =
+    let args = c .before .before .before .before .before .args in
+    let pre = c .before .before .before .before .before .pre in
+    let blocks-now = c .before .before .before .blocks-now in
+    let f = chunk-fits (args .x) (pre .0) in omega (arith, f .1, blocks-now .ensures, pre .1)
 
 cast-less-2 : tie.Need-cast-less-2
 cast-less-2 c = search needs
@@ -46,15 +53,20 @@ skip-sum-requires c κs = search needs
 
 returns : tie.Need-returns
 returns c =
+    let kind-now = c .before .before .before .before .before .before .before .before .before .before .kind-now in
+    let blocks-now = c .before .before .before .before .before .before .before .before .before .blocks-now in
+    let size-now = c .before .before .before .before .before .before .before .before .size-now in
+    let less = c .before .before .before .before .less in
+    let blocks-written = c .before .before .before .blocks-written in
     rw (
       c .skip-sum .ensures,
       c .before .span-now .ensures,
       c .before .before .wrapping-add-u32 .ensures,
-      c .before .before .before .blocks-written .ensures,
-      c .before .before .before .before .less .ensures,
-      c .before .before .before .before .before .before .before .before .size-now .ensures,
-      c .before .before .before .before .before .before .before .before .before .blocks-now .ensures,
-      c .before .before .before .before .before .before .before .before .before .before .kind-now .ensures,
+      blocks-written .ensures,
+      less .ensures,
+      size-now .ensures,
+      blocks-now .ensures,
+      kind-now .ensures,
     )
 
 pub pass-chunk-spec : {M : Type 1} → statement M

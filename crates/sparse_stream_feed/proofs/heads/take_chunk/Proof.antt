@@ -18,7 +18,9 @@ read-header-requires c κs = search needs
 
 pass-chunk-requires : tie.Need-pass-chunk-requires
 pass-chunk-requires c κs =
-    (sym (c .before .before .before .before .chunk-number .ensures) ∙ c .before .before .before .if1 .taken, ap (λ (h : Header). h .total) (c .read-header .ensures))
+    let chunk-number = c .before .before .before .before .chunk-number in
+    let if1 = c .before .before .before .if1 in
+    (sym (chunk-number .ensures) ∙ if1 .taken, ap (λ (h : Header). h .total) (c .read-header .ensures))
 
 settle-requires : tie.Need-settle-requires
 settle-requires c κs = search needs
@@ -26,7 +28,9 @@ settle-requires c κs = search needs
 returns : tie.Need-returns
 unfolding chunkTaken
 returns c =
-    c .settle .ensures ∙ rw (c .before .pass-chunk .ensures) (sym (stop-none _ _ _ _ (sym (c .before .before .before .before .before .before .chunk-number .ensures) ∙ c .before .before .before .before .before .if1 .taken)))
+    let chunk-number = c .before .before .before .before .before .before .chunk-number in
+    let if1 = c .before .before .before .before .before .if1 in
+    c .settle .ensures ∙ rw (c .before .pass-chunk .ensures) (sym (stop-none _ _ _ _ (sym (chunk-number .ensures) ∙ if1 .taken)))
 
 refuse-requires : tie.Need-refuse-requires
 refuse-requires c κs = search needs
@@ -34,7 +38,10 @@ refuse-requires c κs = search needs
 returns-2 : tie.Need-returns-2
 unfolding chunkTaken
 returns-2 c =
-    c .refuse .ensures ∙ stop-same (c .before .before .chunk-number .result) (c .before .before .before .args .x .walk .next .at) (c .before .before .before .args .x) (c .before .before .before .args .x) (settled (chunkRead (c .before .before .before .args .x))) (c .before .if1 .left) ∙ rw (c .before .before .chunk-number .ensures)
+    let args = c .before .before .before .args in
+    let chunk-number = c .before .before .chunk-number in
+    c .refuse .ensures ∙ stop-same (chunk-number .result) (args .x .walk .next .at) (args .x) (args .x)
+    (settled (chunkRead (args .x))) (c .before .if1 .left) ∙ rw (chunk-number .ensures)
 
 pub take-chunk-spec : {M : Type 1} → statement M
 take-chunk-spec =

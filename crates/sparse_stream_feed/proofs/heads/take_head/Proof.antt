@@ -30,7 +30,10 @@ take-chunk-requires : tie.Need-take-chunk-requires
 take-chunk-requires c κs = search needs
 
 returns : tie.Need-returns
-returns c = c .take-chunk .ensures ∙ rw (c .before .keep .ensures, c .before .before .before .before .copy .ensures, back (c .before .before .before .before .before .before .before .before .before .args .i) 12)
+returns c =
+    let args = c .before .before .before .before .before .before .before .before .before .args in
+    let copy = c .before .before .before .before .copy in
+    c .take-chunk .ensures ∙ rw (c .before .keep .ensures, copy .ensures, back (args .i) 12)
 
 pub take-head-spec : {M : Type 1} → statement M
 take-head-spec =

@@ -33,14 +33,21 @@ settle-requires c κs = search needs
 returns : tie.Need-returns
 unfolding headed
 returns c =
+    let args = c .before .before .before .before .before .before .before .before .before .args in
+    let header-number = c .before .before .before .before .before .header-number in
+    let keep = c .before .before .before .before .keep in
+    let if1 = c .before .before .before .if1 in
     c .settle .ensures
-    ∙ rw (c .before .await-chunks .ensures, c .before .before .before .before .keep .ensures)
-    (sym (stop-none _ 0 _ _ (sym (c .before .before .before .before .before .header-number .ensures) ∙ c .before .before .before .if1 .taken) ∙ rw (eq-eqb (c .before .before .before .before .before .before .before .before .before .args .x .come .bytes + 1) 28 (c .before .before .if2 .taken))))
+    ∙ rw (c .before .await-chunks .ensures, keep .ensures)
+    (sym (stop-none _ 0 _ _ (sym (header-number .ensures) ∙ if1 .taken) ∙ rw (eq-eqb (args .x .come .bytes + 1) 28 (c .before .before .if2 .taken))))
 
 returns-2 : tie.Need-returns-2
 unfolding headed
 returns-2 c =
-    c .before .before .keep .ensures ∙ sym (stop-none _ 0 _ _ (sym (c .before .before .before .header-number .ensures) ∙ c .before .if1 .taken) ∙ rw (ne-eqb (c .before .before .before .before .before .before .before .args .x .come .bytes + 1) 28 (c .if2 .left)))
+    let args = c .before .before .before .before .before .before .before .args in
+    let header-number = c .before .before .before .header-number in
+    c .before .before .keep .ensures ∙ sym
+    (stop-none _ 0 _ _ (sym (header-number .ensures) ∙ c .before .if1 .taken) ∙ rw (ne-eqb (args .x .come .bytes + 1) 28 (c .if2 .left)))
 
 refuse-requires : tie.Need-refuse-requires
 refuse-requires c κs = search needs
@@ -48,11 +55,13 @@ refuse-requires c κs = search needs
 returns-3 : tie.Need-returns-3
 unfolding headed
 returns-3 c =
+    let args = c .before .before .before .before .before .before .before .args in
+    let header-number = c .before .before .before .header-number in
     c .refuse .ensures
     ∙ rw (c .before .before .keep .ensures)
-    (stop-same (c .before .before .before .header-number .result) 0 (headKept (c .before .before .before .before .before .before .before .args .x) (c .before .before .before .before .before .before .before .args .b)) (headKept (c .before .before .before .before .before .before .before .args .x) (c .before .before .before .before .before .before .before .args .b))
-    (readyIf (eqb (c .before .before .before .before .before .before .before .args .x .come .bytes + 1) 28) (headKept (c .before .before .before .before .before .before .before .args .x) (c .before .before .before .before .before .before .before .args .b))) (c .before .if1 .left)
-    ∙ rw (c .before .before .before .header-number .ensures))
+    (stop-same (header-number .result) 0 (headKept (args .x) (args .b)) (headKept (args .x) (args .b))
+    (readyIf (eqb (args .x .come .bytes + 1) 28) (headKept (args .x) (args .b))) (c .before .if1 .left)
+    ∙ rw (header-number .ensures))
 
 pub take-header-spec : {M : Type 1} → statement M
 take-header-spec =

@@ -1,0 +1,150 @@
+#include "work.h"
+
+#include <stdio.h>
+#include <stdlib.h>
+#include <string.h>
+#include <time.h>
+
+#define RUNS 3
+
+const struct data kinds[KINDS] = {
+    {"random", 4096, 1, 1, 0, 0},
+    {"mostly fill", 4096, 16, 256, 0xA5, 0},
+    {"mostly don't care", 4096, 16, 256, 0, 1},
+    {"small chunks", 256, 1, 2, 0xA5, 0},
+};
+
+void expect(int holds, const char *what)
+{
+    if (holds)
+        return;
+    fprintf(stderr, "bench: %s\n", what);
+    exit(1);
+}
+
+double now(void)
+{
+    struct timespec time;
+
+    clock_gettime(CLOCK_PROCESS_CPUTIME_ID, &time);
+    return (double)time.tv_sec + (double)time.tv_nsec / 1e9;
+}
+
+double best(job *run, struct work *work)
+{
+    double least = run(work);
+
+    for (int i = 1; i < RUNS && least >= 0; i++) {
+        double seconds = run(work);
+
+        if (seconds < least)
+            least = seconds;
+    }
+    return least;
+}
+
+double judge(struct work *work)
+{
+    uint64_t answer[TARPAULARK_JUDGE_ANSWER];
+    double start = now();
+
+    expect(tarpaulark_judge(work->image, work->image_len, work->flat_len, answer) == 0, "judge refused");
+    return now() - start;
+}
+
+double store(struct work *work)
+{
+    uint64_t answer[TARPAULARK_STORE_ANSWER];
+    double start = now();
+
+    expect(tarpaulark_store(work->image, work->image_len, work->partition, work->flat_len, answer) == 0,
+           "store refused");
+    return now() - start;
+}
+
+static double write_image(struct work *work)
+{
+    uint64_t answer[TARPAULARK_WRITE_ANSWER];
+    double start = now();
+
+    expect(tarpaulark_write(work->flat, work->flat_len, work->block, work->image, work->image_room, answer) == 0,
+           "write refused");
+    work->image_len = answer[TARPAULARK_LENGTH];
+    return now() - start;
+}
+
+static void make_noise(uint8_t *at, size_t length)
+{
+    static uint64_t state = 88172645463325252u;
+
+    for (size_t i = 0; i + 8 <= length; i += 8) {
+        state ^= state << 13;
+        state ^= state >> 7;
+        state ^= state << 17;
+        memcpy(at + i, &state, 8);
+    }
+}
+
+static void make_flat(const struct data *data, struct work *work, size_t mib)
+{
+    size_t step = (size_t)data->block * data->period, noise = (size_t)data->block * data->noisy;
+
+    /* Small chunks are one block each, 1,000,000 of them for 256 MiB. */
+    work->flat_len = data->block == 256 ? mib * 1000000 / step * step : mib << 20;
+    work->block = data->block;
+    memset(work->flat, data->rest, work->flat_len);
+    for (size_t at = 0; at < work->flat_len; at += step)
+        make_noise(work->flat + at, noise);
+}
+
+/* Turns each fill chunk of zeros into don't care; the checksum stays. */
+static void skip_zeros(struct work *work)
+{
+    static const uint8_t zeros[] = {0xC2, 0xCA};
+    uint8_t *image = work->image;
+    size_t from = 28, to = 28;
+
+    while (from < work->image_len) {
+        uint32_t total;
+        int zero = memcmp(image + from, zeros, 2) == 0 && image[from + 12] == 0;
+
+        memcpy(&total, image + from + 8, 4);
+        memmove(image + to, image + from, total);
+        from += total;
+        if (zero) {
+            image[to] = 0xC3;
+            image[to + 8] = 12;
+        }
+        to += zero ? 12 : total;
+    }
+    work->image_len = to;
+}
+
+double make_image(const struct data *data, struct work *work, size_t mib)
+{
+    double seconds;
+
+    make_flat(data, work, mib);
+    seconds = best(write_image, work);
+    if (data->skips)
+        skip_zeros(work);
+    return seconds;
+}
+
+void clear_partition(struct work *work)
+{
+    memset(work->partition, 0, work->flat_len);
+}
+
+void expect_stored(const struct work *work)
+{
+    expect(memcmp(work->flat, work->partition, work->flat_len) == 0, "the stored bytes are wrong");
+}
+
+void put_ratio(double time, double other)
+{
+    if (other > 0)
+        printf(" %9.2f", time / other);
+    else
+        printf(" %9s", "-");
+}

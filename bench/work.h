@@ -1,0 +1,53 @@
+/* The images that are timed, and the whole form on them. */
+#ifndef WORK_H
+#define WORK_H
+
+#include "tarpaulark.h"
+
+#include <limits.h>
+
+#define ABSENT (-1.0)
+
+struct work {
+    uint8_t *flat, *image, *partition;
+    size_t flat_len, image_len, image_room, piece;
+    uint32_t block;
+    char flat_path[PATH_MAX], image_path[PATH_MAX], out_path[PATH_MAX];
+};
+
+/* What the flat bytes hold: `noisy` of each `period` blocks random, the others `rest`. */
+struct data {
+    const char *name;
+    uint32_t block, noisy, period;
+    uint8_t rest;
+    int skips;
+};
+
+#define KINDS 4
+extern const struct data kinds[KINDS];
+
+/* Processor seconds of one run, or ABSENT. */
+typedef double job(struct work *work);
+
+void expect(int holds, const char *what);
+
+/* Processor time, which other work on the machine disturbs least. */
+double now(void);
+
+/* The least of some runs. */
+double best(job *run, struct work *work);
+
+/* Makes the image of so many MiB of flat bytes; the time that writing it takes. */
+double make_image(const struct data *data, struct work *work, size_t mib);
+
+/* Makes the partition zeros, and whether it holds the flat bytes. */
+void clear_partition(struct work *work);
+void expect_stored(const struct work *work);
+
+double judge(struct work *work);
+double store(struct work *work);
+
+/* A column: one time over another. */
+void put_ratio(double time, double other);
+
+#endif

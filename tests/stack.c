@@ -1,0 +1,433 @@
+/*
+ * Measures how much stack a call of each exported function takes: the call runs on a stack of its own whose words
+ * were painted, and the lowest word that lost its paint tells how deep it went, less what an empty call takes. The
+ * inputs are accepted ones and, by damage, ones that get every refusal but 28. Prints one line, `stack: N calls of
+ * M functions take at most B bytes`; ends with 1 where a call takes more than include/tarpaulark.h promises, or a
+ * refusal was not met.
+ */
+#include "tarpaulark.h"
+
+#include <stdbool.h>
+#include <stdio.h>
+#include <stdlib.h>
+#include <string.h>
+#include <ucontext.h>
+
+/* A call takes less, says the header. */
+#define PROMISED 2048
+
+#define WORDS 2048
+#define PAINT 0x9E3779B97F4A7C15u
+
+/* Raw data from 1,024 bytes on go through the checksum in four lanes. */
+#define BLOCK 1024
+#define BLOCKS 10
+#define ROOM 16384
+
+/* What is lent to the calls, and what the last one returned. */
+static uint8_t flat[BLOCKS * BLOCK], image[ROOM], partition[BLOCKS * BLOCK], pass[TARPAULARK_PASS];
+static uint8_t record[TARPAULARK_RECORD];
+static size_t image_len, told_len, flat_len = sizeof flat, partition_len = sizeof partition, room = ROOM;
+static size_t piece_at, piece_len, chunk_at;
+static uint32_t block = BLOCK, slot, number;
+static uint64_t answer[TARPAULARK_LOCATE_ANSWER], met;
+
+static void got(uint32_t returned)
+{
+    number = returned;
+    met |= (uint64_t)1 << returned;
+}
+
+static void nothing(void)
+{
+}
+
+static void judge(void)
+{
+    got(tarpaulark_judge(image, image_len, sizeof partition, answer));
+}
+
+static void store(void)
+{
+    got(tarpaulark_store(image, image_len, partition, sizeof partition, answer));
+}
+
+static void store_limited(void)
+{
+    got(tarpaulark_store_limited(image, image_len, partition, sizeof partition, 3, answer));
+}
+
+static void write_image(void)
+{
+    got(tarpaulark_write(flat, flat_len, block, image, room, answer));
+}
+
+static void header(void)
+{
+    got(tarpaulark_header(image, image_len, sizeof partition, answer));
+}
+
+static void chunk(void)
+{
+    got(tarpaulark_chunk(image, image_len, chunk_at, 0, answer));
+}
+
+static void pass_begin(void)
+{
+    tarpaulark_pass_begin(told_len, sizeof partition, pass);
+}
+
+static void judge_piece(void)
+{
+    got(tarpaulark_pass_judge_piece(pass, image + piece_at, piece_len, answer));
+}
+
+static void judge_finish(void)
+{
+    got(tarpaulark_pass_judge_finish(pass, answer));
+}
+
+static void store_piece(void)
+{
+    got(tarpaulark_pass_store_piece(pass, image + piece_at, piece_len, partition, partition_len, answer));
+}
+
+static void store_finish(void)
+{
+    got(tarpaulark_pass_store_finish(pass, partition, partition_len, answer));
+}
+
+static void locate(void)
+{
+    got(tarpaulark_locate(image, image_len, answer));
+}
+
+static void slots_valid(void)
+{
+    got(tarpaulark_slots_valid(record));
+}
+
+static void slots_fresh(void)
+{
+    got(tarpaulark_slots_fresh(slot, record, answer));
+}
+
+static void slots_start(void)
+{
+    got(tarpaulark_slots_start(record, answer));
+}
+
+static void slots_set_active(void)
+{
+    got(tarpaulark_slots_set_active(record, slot, answer));
+}
+
+static void slots_modified(void)
+{
+    got(tarpaulark_slots_modified(record, slot, answer));
+}
+
+static void slots_confirm(void)
+{
+    got(tarpaulark_slots_confirm(record, answer));
+}
+
+/* Each call, and the deepest it went. The passes keep a state as well. */
+static struct function {
+    const char *name;
+    void (*run)(void);
+    bool is_pass;
+    size_t deepest;
+} functions[] = {
+    {"judge", judge, false, 0},
+    {"store", store, false, 0},
+    {"store_limited", store_limited, false, 0},
+    {"write", write_image, false, 0},
+    {"header", header, false, 0},
+    {"chunk", chunk, false, 0},
+    {"pass_begin", pass_begin, true, 0},
+    {"pass_judge_piece", judge_piece, true, 0},
+    {"pass_judge_finish", judge_finish, true, 0},
+    {"pass_store_piece", store_piece, true, 0},
+    {"pass_store_finish", store_finish, true, 0},
+    {"locate", locate, false, 0},
+    {"slots_valid", slots_valid, false, 0},
+    {"slots_fresh", slots_fresh, false, 0},
+    {"slots_start", slots_start, false, 0},
+    {"slots_set_active", slots_set_active, false, 0},
+    {"slots_modified", slots_modified, false, 0},
+    {"slots_confirm", slots_confirm, false, 0},
+};
+#define FUNCTIONS (sizeof functions / sizeof functions[0])
+
+static size_t calls, empty;
+
+static void expect(bool holds, const char *what)
+{
+    if (holds)
+        return;
+    printf("stack: %s\n", what);
+    exit(1);
+}
+
+/* The bytes of a painted stack that a call takes. */
+static size_t depth_of(void (*run)(void))
+{
+    static uint64_t stack[WORDS];
+    static ucontext_t here, there;
+    size_t kept = 0;
+
+    for (size_t i = 0; i < WORDS; i++)
+        stack[i] = PAINT;
+    getcontext(&there);
+    there.uc_stack.ss_sp = stack;
+    there.uc_stack.ss_size = sizeof stack;
+    there.uc_link = &here;
+    makecontext(&there, run, 0);
+    swapcontext(&here, &there);
+    while (kept < WORDS && stack[kept] == PAINT)
+        kept++;
+    expect(kept > 0, "the painted stack is too small");
+    return sizeof stack - kept * sizeof stack[0];
+}
+
+static void measure(void (*run)(void))
+{
+    size_t depth = depth_of(run) - empty, i = 0;
+
+    while (functions[i].run != run)
+        i++;
+    if (functions[i].deepest < depth)
+        functions[i].deepest = depth;
+    calls++;
+}
+
+static void put32(size_t at, uint32_t value)
+{
+    for (size_t i = 0; i < 4; i++)
+        image[at + i] = (uint8_t)(value >> 8 * i);
+}
+
+/* Where the chunks of the image begin: raw, fill, don't care, raw, unknown, of two blocks each. */
+#define RAW (12 + 2 * BLOCK)
+static const size_t starts[] = {28, 28 + RAW, 44 + RAW, 56 + RAW, 56 + 2 * RAW};
+
+/* Fill chunks of zeros are turned into don't care, without their word, and into unknown; the checksum stays. */
+static void make_image(void)
+{
+    memset(flat, 0, sizeof flat);
+    for (size_t i = 0; i < 2 * BLOCK; i++)
+        flat[i] = flat[6 * BLOCK + i] = (uint8_t)rand();
+    memset(flat + 2 * BLOCK, 0xA5, 2 * BLOCK);
+    measure(write_image);
+    image_len = answer[TARPAULARK_LENGTH];
+    image[starts[2]] = 0xC3;
+    image[starts[2] + 8] = 12;
+    memmove(image + starts[3], image + starts[3] + 4, image_len - starts[3] - 4);
+    image_len -= 4;
+    image[starts[4]] = 0xC5;
+    told_len = image_len;
+}
+
+static void run_pass(void (*piece)(void), void (*finish)(void), size_t step)
+{
+    measure(pass_begin);
+    for (piece_at = 0; piece_at < image_len; piece_at += piece_len) {
+        piece_len = image_len - piece_at < step ? image_len - piece_at : step;
+        measure(piece);
+    }
+    measure(finish);
+}
+
+static void run_passes(size_t step)
+{
+    run_pass(judge_piece, judge_finish, step);
+    run_pass(store_piece, store_finish, step);
+}
+
+static void run_whole(void)
+{
+    measure(judge);
+    measure(store);
+    measure(store_limited);
+    measure(header);
+    for (size_t i = 0; i < sizeof starts / sizeof starts[0]; i++) {
+        chunk_at = starts[i];
+        measure(chunk);
+    }
+}
+
+static void run_sparse(void)
+{
+    run_whole();
+    run_passes(ROOM);
+    run_passes(BLOCK + 501);
+}
+
+/* The image with each byte of 28 from a place on changed in two ways. */
+static void damage(size_t from)
+{
+    static const uint8_t changes[] = {2, 0xFF};
+
+    for (size_t i = from; i < from + 28; i++)
+        for (size_t j = 0; j < sizeof changes; j++) {
+            image[i] ^= changes[j];
+            run_sparse();
+            image[i] ^= changes[j];
+        }
+}
+
+static void try_lengths(void)
+{
+    const size_t good = image_len;
+
+    for (image_len = 0; image_len <= good + 1; image_len += image_len < 64 ? 1 : 61) {
+        told_len = image_len;
+        run_sparse();
+        told_len = good;
+        run_passes(ROOM);
+    }
+    image_len = good + 1;
+    run_passes(ROOM);
+    told_len = good + 1;
+    run_sparse();
+    image_len = told_len = good;
+    partition_len--;
+    run_passes(ROOM);
+    partition_len++;
+}
+
+static void try_sparse(void)
+{
+    make_image();
+    measure(judge);
+    expect(number == 0, "the image is refused");
+    for (size_t step = 1; step < ROOM; step *= 3) {
+        run_passes(step);
+        expect(number == 0, "the image is refused in pieces");
+    }
+    run_sparse();
+    damage(0);
+    for (size_t i = 0; i < sizeof starts / sizeof starts[0]; i++)
+        damage(starts[i]);
+    try_lengths();
+}
+
+static void try_write(void)
+{
+    block = 3;
+    measure(write_image);
+    block = BLOCK;
+    flat_len--;
+    measure(write_image);
+    flat_len++;
+    room = 4 * BLOCK;
+    measure(write_image);
+}
+
+/* Each section has one byte, so it takes one page. */
+static void make_boot(uint32_t version)
+{
+    static const uint32_t lengths[] = {1632, 1648, 1660, 1580, 1584};
+    const bool late = version > 2;
+
+    memset(image, 0, sizeof image);
+    memcpy(image, "ANDROID!", 8);
+    put32(40, version);
+    put32(8, 1);
+    put32(late ? 12 : 16, 1);
+    put32(late ? 1580 : 24, 1);
+    put32(late ? 20 : 1644, lengths[version]);
+    image_len = 3 * 4096 + 1;
+    if (late)
+        return;
+    put32(36, 2048);
+    put32(1632, 1);
+    put32(1636, 4 * 2048);
+    put32(1648, 1);
+    image_len = 5 * 2048 + 1;
+}
+
+static void try_boot(void)
+{
+    for (uint32_t version = 0; version <= 4; version++) {
+        make_boot(version);
+        measure(locate);
+        expect(number == 0, "the boot image is refused");
+        for (size_t i = 0; i < 1660; i += i == 48 ? 1580 - 48 : 1) {
+            image[i] ^= 0xFF;
+            measure(locate);
+            image[i] ^= 0xFF;
+        }
+        for (; image_len > 0; image_len -= image_len < 200 ? 1 : 200)
+            measure(locate);
+    }
+}
+
+/* Any record: flags that may be 0 or 1, tries up to 8, a current slot up to the place after d. */
+static void make_record(void)
+{
+    for (size_t i = 0; i < 16; i++)
+        record[i] = (uint8_t)(rand() % (i % 4 == 3 ? 9 : 2));
+    record[16] = (uint8_t)(rand() % 5);
+}
+
+static void try_slots(void)
+{
+    static void (*const operations[])(void) = {
+        slots_valid, slots_fresh, slots_start, slots_set_active, slots_modified, slots_confirm,
+    };
+
+    for (size_t i = 0; i < 2000; i++)
+        for (size_t j = 0; j < sizeof operations / sizeof operations[0]; j++) {
+            make_record();
+            slot = (uint32_t)(rand() % 6);
+            measure(operations[j]);
+        }
+}
+
+/* Whether the calls got every refusal that the header names, but for 28. */
+static bool all_met(void)
+{
+    static const uint8_t spans[][2] = {{0, 16}, {21, 27}, {31, 33}};
+    bool all = true;
+
+    for (size_t i = 0; i < sizeof spans / sizeof spans[0]; i++)
+        for (unsigned n = spans[i][0]; n <= spans[i][1]; n++)
+            if ((met >> n & 1) == 0) {
+                printf("stack: no call got %u\n", n);
+                all = false;
+            }
+    return all;
+}
+
+static bool report(void)
+{
+    const struct function *deepest = functions;
+    size_t by_pass = 0;
+
+    for (const struct function *f = functions; f < functions + FUNCTIONS; f++) {
+        if (f->deepest >= PROMISED)
+            printf("stack: tarpaulark_%s takes %zu bytes, not less than %d\n", f->name, f->deepest, PROMISED);
+        if (f->deepest > deepest->deepest)
+            deepest = f;
+        if (f->is_pass && f->deepest > by_pass)
+            by_pass = f->deepest;
+    }
+    printf("stack: %zu calls of %zu functions take at most %zu bytes (%s); a pass takes %zu with its state\n", calls,
+           FUNCTIONS, deepest->deepest, deepest->name, by_pass + TARPAULARK_PASS);
+    return deepest->deepest < PROMISED;
+}
+
+int main(void)
+{
+    bool all;
+
+    empty = depth_of(nothing);
+    try_sparse();
+    try_write();
+    try_boot();
+    try_slots();
+    all = all_met();
+    return report() && all ? 0 : 1;
+}
