@@ -1,18 +1,20 @@
 """Holds a shared object against the reference on random and damaged inputs.
 
-    python3 tests/differential.py LIBRARY [--seconds 60] [--seed N] [--start N] [--functions a,b]
+    python3 tests/differential.py LIBRARY [--seconds 60] [--seed N] [--start N] [--kinds a,b]
 
-Calls each function of FUNCTIONS in turn.  All choices of a case come from the
-seed and the case's number, so `--start N` with the same functions goes straight
-to case N.  Each buffer has guard bytes before and after it, which must stay as
-they are; a buffer that is only read must stay too; the pointer to no bytes may be
-null.  Prints one line, `differential: N calls agree`; at the first difference it
-shows that case instead and ends with 1, also when a call crashes or does not end.
+Makes a case of each of KINDS in turn: one call of a function, or the calls of a
+pass, one after the other.  All choices of a case come from the seed and the case's
+number, so `--start N` with the same kinds goes straight to case N.  Each buffer has
+guard bytes before and after it, which must stay as they are; a buffer that is only
+read must stay too; the pointer to no bytes may be null.  Prints one line,
+`differential: N calls agree`; at the first difference it shows that call instead
+and ends with 1, also when a call crashes or does not end.
 
 A function of the library takes its arguments in order, then a pointer to the
 numbers it answers with, whose count is fixed; one that answers none takes no such
-pointer.  Bytes are a pointer and a length, a slot record is a pointer to its 17
-bytes.  It returns 0 or the number of its refusal.  include/tarpaulark.h has the
+pointer.  Bytes are a pointer and a length; a slot record is a pointer to its 17
+bytes, and the state of a pass to its 104.  It returns 0 or the number of its
+refusal; beginning a pass returns nothing.  include/tarpaulark.h has the
 declarations.
 """
 
@@ -23,22 +25,26 @@ import os
 import random
 import sys
 import time
-from typing import Any, Callable, List, NamedTuple, Optional, Sequence, Tuple, Union
+from typing import (
+    Any, Callable, Dict, Generator, List, NamedTuple, Optional, Sequence, Tuple, Union
+)
 
 HERE = os.path.dirname(os.path.abspath(__file__))
 sys.path.insert(0, os.path.join(HERE, "reference"))
 
 import build
 import cases_boot
+import cases_passes
 import cases_slots
 import cases_sparse
 import cases_store
 import cases_write
 import fields
+import passes
 import sparse
 import store
 import writer
-from cases_common import below, pick, some_bytes
+from cases_common import below, pick, some_bytes, u32, u64
 from slots import PLACES, Record, Slot, is_valid
 
 PREFIX = "tarpaulark_"
@@ -51,32 +57,56 @@ EDGES = (0, 1, 2, 3, 4, 7, 8, 11, 12, 13, 16, 28, 255, 256, 65532, 65535, 65536,
 EDGES += tuple(2**k + d for k in (30, 31, 32) for d in (-4, -1, 0, 1) if 2**k + d < 2**32)
 ROOM = 2**64 - 1
 RECORD_LENGTH = 17
+STATE_LENGTH = 104
+LARGEST_LENT = 40000
 REFUSED = 3
 CHUNK_KINDS = {sparse.TYPE_RAW: 0, sparse.TYPE_FILL: 1, sparse.TYPE_DONT_CARE: 2}
 UNKNOWN_KIND = 3
 
 Argument = Union[bytes, int]
+Expected = Union[bytes, Dict[int, bytes]]
 
 
 class Call(NamedTuple):
-    """A case: the arguments, and what the reference makes of them: the number
-    returned, the numbers answered, and each bytes argument after the call."""
+    """A call: the arguments, and what the reference makes of them: the number
+    returned, the numbers answered, and each bytes argument after the call, whole or
+    the stretches at some positions.  Nothing is expected where there is None."""
 
     arguments: Tuple[Argument, ...]
-    number: int
+    number: Optional[int]
+    out: Optional[Tuple[int, ...]]
+    after: Tuple[Expected, ...]
+
+
+class Outcome(NamedTuple):
+    """What the library makes of a call, and whether the guards stand."""
+
+    number: Optional[int]
     out: Tuple[int, ...]
     after: Tuple[bytes, ...]
+    is_guarded: bool
 
 
 class Function(NamedTuple):
-    """A function of the library: its arguments' types (`bytes`, `record` or a
-    number's width in bits), how many numbers it answers, and the maker of its
-    cases."""
+    """A function of the library: its arguments' types (`bytes`, `record`, `state` or
+    a number's width in bits), how many numbers it answers, whether it returns one."""
 
     name: str
     types: Tuple[Union[str, int], ...]
     answers: int
-    make: Callable[[random.Random], Call]
+    returns: bool = True
+
+
+Calls = Generator[Tuple[Function, Call], Outcome, None]
+
+
+class Kind(NamedTuple):
+    """A kind of cases: its name, the functions that they call, and their maker, which
+    is sent the outcome of each call before it makes the next."""
+
+    name: str
+    functions: Tuple[Function, ...]
+    make: Callable[[random.Random], Calls]
 
 
 # Buffers.
@@ -114,10 +144,10 @@ def signature(function: Function) -> List[Any]:
     for kind in function.types:
         if kind == "bytes":
             types += [ctypes.c_void_p, ctypes.c_size_t]
-        elif kind == "record":
+        elif isinstance(kind, str):
             types.append(ctypes.c_void_p)
         else:
-            types.append(NUMBER_TYPES[int(kind)])
+            types.append(NUMBER_TYPES[kind])
     return types + ([ctypes.c_void_p] if function.answers else [])
 
 
@@ -126,13 +156,15 @@ def as_number_array(data: bytes) -> Tuple[int, ...]:
     return tuple(int.from_bytes(data[at:at + 8], sys.byteorder) for at in range(0, len(data), 8))
 
 
-def fault_of(foreign: Any, function: Function, call: Call, rng: random.Random) -> Optional[str]:
-    """Calls the library; what differs from the reference, or None."""
-    lent = [Guarded(item, below(rng, 8)) for item in call.arguments if isinstance(item, bytes)]
+def outcome_of(
+    foreign: Any, function: Function, arguments: Sequence[Argument], rng: random.Random
+) -> Outcome:
+    """Calls the library."""
+    lent = [Guarded(item, below(rng, 8)) for item in arguments if isinstance(item, bytes)]
     out = Guarded(OUT_BYTE * (8 * function.answers), 0)
     values: List[int] = []
     buffers = iter(lent)
-    for kind, item in zip(function.types, call.arguments):
+    for kind, item in zip(function.types, arguments):
         if isinstance(item, bytes):
             address = next(buffers).address()
             values.append(address if item or below(rng, 2) == 0 else 0)
@@ -140,23 +172,29 @@ def fault_of(foreign: Any, function: Function, call: Call, rng: random.Random) -
         else:
             values.append(item)
     number = foreign(*values, *([out.address()] if function.answers else []))
-    if number != call.number:
-        return f"number {number}, expected {call.number}"
-    found = as_number_array(out.data())
-    if found != call.out:
-        return f"answer {found}, expected {call.out}"
-    for i, (buffer, after) in enumerate(zip(lent, call.after)):
-        if buffer.data() != after:
-            return f"bytes argument {i} after the call: {first_difference(buffer.data(), after)}"
-    if not all(buffer.is_guarded() for buffer in lent + [out]):
-        return "bytes outside a buffer were changed"
-    return None
+    is_guarded = all(buffer.is_guarded() for buffer in lent + [out])
+    after = tuple(buffer.data() for buffer in lent)
+    return Outcome(number, as_number_array(out.data()), after, is_guarded)
 
 
-def first_difference(found: bytes, expected: bytes) -> str:
-    """Where two buffers of one length part."""
-    at = next(i for i in range(len(expected)) if found[i] != expected[i])
-    return f"at {at} of {len(expected)}: {found[at]}, expected {expected[at]}"
+def fault_of(outcome: Outcome, call: Call) -> Optional[str]:
+    """What differs from the reference, or None."""
+    if call.number is not None and outcome.number != call.number:
+        return f"number {outcome.number}, expected {call.number}"
+    if call.out is not None and outcome.out != call.out:
+        return f"answer {outcome.out}, expected {call.out}"
+    for i, (found, expected) in enumerate(zip(outcome.after, call.after)):
+        stretches = {0: expected} if isinstance(expected, bytes) else expected
+        for at, stretch in stretches.items():
+            if found[at:at + len(stretch)] != stretch:
+                return f"bytes argument {i} after the call: {first_difference(found, at, stretch)}"
+    return None if outcome.is_guarded else "bytes outside a buffer were changed"
+
+
+def first_difference(found: bytes, start: int, expected: bytes) -> str:
+    """Where a buffer parts from a stretch that is expected in it."""
+    i = next(i for i in range(len(expected)) if found[start + i] != expected[i])
+    return f"at {start + i} of {len(found)}: {found[start + i]}, expected {expected[i]}"
 
 
 # Inputs.
@@ -397,71 +435,252 @@ def slots_call(operation: int, takes_slot: bool) -> Callable[[random.Random], Ca
     return make
 
 
-FUNCTIONS = (
-    Function("judge", ("bytes", 64), 3, judge_call),
-    Function("store", ("bytes", "bytes"), 3, store_call),
-    Function("store_limited", ("bytes", "bytes", 64), 2, store_limited_call),
-    Function("write", ("bytes", 32, "bytes"), 2, write_call),
-    Function("header", ("bytes", 64), 6, header_call),
-    Function("chunk", ("bytes", 64, 32), 6, chunk_call),
-    Function("locate", ("bytes",), 19, locate_call),
-    Function("slots_valid", ("record",), 0, valid_call),
-    Function("slots_fresh", (32, "record"), 2, fresh_call),
-    Function("slots_start", ("record",), 2, slots_call(cases_slots.START, False)),
-    Function("slots_set_active", ("record", 32), 2, slots_call(cases_slots.SET_ACTIVE, True)),
-    Function("slots_modified", ("record", 32), 2, slots_call(cases_slots.MODIFIED, True)),
-    Function("slots_confirm", ("record",), 2, slots_call(cases_slots.CONFIRM, False)),
+# Passes.
+
+BEGIN = Function("pass_begin", (64, 64, "state"), 0, returns=False)
+JUDGE_PIECE = Function("pass_judge_piece", ("state", "bytes"), 1)
+JUDGE_FINISH = Function("pass_judge_finish", ("state",), 3)
+STORE_PIECE = Function("pass_store_piece", ("state", "bytes", "bytes"), 1)
+STORE_FINISH = Function("pass_store_finish", ("state", "bytes"), 3)
+PASS_FUNCTIONS = (BEGIN, JUDGE_PIECE, JUDGE_FINISH, STORE_PIECE, STORE_FINISH)
+
+
+class Lent(NamedTuple):
+    """What a call of a pass is lent beside its state: a piece, or None to finish; a
+    partition, or None for the judging pass."""
+
+    piece: Optional[bytes]
+    partition: Optional[bytes]
+
+    def function(self) -> Function:
+        """The function that is called."""
+        if self.partition is None:
+            return JUDGE_FINISH if self.piece is None else JUDGE_PIECE
+        return STORE_FINISH if self.piece is None else STORE_PIECE
+
+    def buffers(self) -> Tuple[bytes, ...]:
+        """The bytes arguments after the state."""
+        return tuple(item for item in self if item is not None)
+
+
+def begin_call(rng: random.Random, length: int, room: int) -> Tuple[Function, Call]:
+    """`pass_begin`: the state as the header lays it out, whatever stood there."""
+    state = u64(length) + u64(room) + bytes(20) + u32(2**32 - 1)
+    after = state + bytes(STATE_LENGTH - len(state))
+    return BEGIN, Call((length, room, some_bytes(rng, STATE_LENGTH)), None, None, (after,))
+
+
+def state_fields(state: passes.State) -> Dict[int, bytes]:
+    """What the header says of a state: the lengths told, the refusal and its place, the
+    file header as far as it came, and how many bytes came.  That is left open for a
+    refusal of 01's, which may come before the end of a piece."""
+    refusal = state.refusal or sparse.Refusal(0, 0)
+    given = u32(refusal.number) + u64(refusal.place)
+    known = {0: u64(state.length) + u64(state.room) + given, 60: state.head}
+    if refusal.number == 0 or refusal.number in cases_passes.NEW_REFUSALS:
+        known[28] = u64(state.come)
+    return known
+
+
+def many_bytes(rng: random.Random, count: int) -> bytes:
+    """So many bytes of any value, made at once."""
+    return rng.getrandbits(8 * count).to_bytes(count, "little")
+
+
+def long_image(rng: random.Random) -> bytes:
+    """An image with some thousand bytes of raw data and headers of any length."""
+    size = pick(rng, (256, 1024, 4096))
+    plans = []
+    for _ in range(1 + below(rng, 3)):
+        raw = build.raw(many_bytes(rng, size * (1 + below(rng, 3))), size)
+        plans.append(pick(rng, (raw, raw, build.fill(some_bytes(rng, 4), 1), build.skip(1))))
+    return build.sparse_image(
+        size,
+        plans,
+        file_header_size=pick(rng, (28, 28, 32, 1000, 65532)),
+        chunk_header_size=pick(rng, (12, 12, 16, 1000, 65532)),
+    )
+
+
+def pass_input(rng: random.Random) -> bytes:
+    """An image, long ones among them, whole or damaged, or bytes that are none."""
+    if below(rng, 8) != 0:
+        return sparse_input(rng, below(rng, 4) != 0)
+    image = long_image(rng)
+    return damaged(rng, image, 28) if below(rng, 4) == 0 else image
+
+
+def cut(rng: random.Random, image: bytes) -> Sequence[bytes]:
+    """The image byte by byte, in one piece, in two, or in several."""
+    kind = below(rng, 6)
+    if kind == 0 and 0 < len(image) < 200:
+        return cases_passes.by_bytes(image)
+    return [image] if kind == 1 else cases_passes.at_random(rng, image, pick(rng, (3, 8, 8)))
+
+
+def announced(rng: random.Random, image: bytes) -> int:
+    """Mostly the image's length, or one near it, or any."""
+    near = max(0, len(image) + pick(rng, (-12, -1, 1, 4, 12, 40)))
+    return pick(rng, (len(image),) * 12 + (near, near, ROOM, rng.getrandbits(64)))
+
+
+def pass_calls(rng: random.Random) -> Calls:
+    """A whole pass, or both over one state, each call as the reference has it; the
+    partition as the last call left it, or with other contents each time."""
+    image = pass_input(rng)
+    length, room = announced(rng, image), partition_length(rng, image)
+    if below(rng, 8) == 0:
+        room = pick(rng, (ROOM, rng.getrandbits(64), below(rng, 200)))
+    partition = many_bytes(rng, min(room, LARGEST_LENT) + 40)
+    takes = cases_passes.passes_taken(rng, room) if room <= LARGEST_LENT else (None, None, 40)
+    keeps = below(rng, 4) != 0
+    state = passes.begin(length, room)
+    outcome = yield begin_call(rng, length, room)
+    for piece, count in cases_passes.random_calls(rng, cut(rng, image), takes):
+        lent = Lent(piece, None if count is None else partition[:count])
+        state, answer, left = passes.called(state, *lent)
+        number, *out = cases_passes.answer_values(answer, piece is None)
+        after = (state_fields(state),) + Lent(piece, left).buffers()
+        arguments = (outcome.after[0],) + lent.buffers()
+        outcome = yield lent.function(), Call(arguments, number, tuple(out), after)
+        kept = (left or b"") + partition[len(left or b""):]
+        partition = kept if keeps else many_bytes(rng, len(partition))
+
+
+def forged(rng: random.Random, state: bytes, room: int) -> bytes:
+    """A state that no pass made: some numbers of a true one replaced, or any bytes, of
+    which the refusal and the lengths are mostly such that the call goes on."""
+    if below(rng, 2) == 0:
+        for _ in range(1 + below(rng, 4)):
+            number = u32(pick(rng, EDGES + (rng.getrandbits(32),)))[:pick(rng, (1, 2, 4))]
+            state = build.with_bytes(state, 4 * below(rng, STATE_LENGTH // 4), number)
+        return state
+    state = some_bytes(rng, STATE_LENGTH)
+    come = rng.getrandbits(below(rng, 60))
+    for at, field in ((0, u64(ROOM)), (8, u64(room)), (16, bytes(4)), (28, u64(come))):
+        state = build.with_bytes(state, at, field) if below(rng, 8) != 0 else state
+    return state
+
+
+def forged_calls(rng: random.Random) -> Calls:
+    """Calls on a state that no pass made.  No more is known than that a finishing stores
+    nothing, and that a refusal in the state, or one given since, is given again and
+    stores nothing."""
+    image = pass_input(rng)
+    room = min(partition_length(rng, image), LARGEST_LENT)
+    outcome = yield begin_call(rng, len(image), room)
+    first = image[:below(rng, len(image) + 1)]
+    outcome = yield JUDGE_PIECE, Call((outcome.after[0], first), None, None, ({}, first))
+    state = forged(rng, outcome.after[0], room)
+    number, place = fields.read(state, 16, 4), fields.read(state, 20, 8)
+    rest = cut(rng, image[len(first):])
+    for piece, count in cases_passes.random_calls(rng, rest, cases_passes.passes_taken(rng, room)):
+        lent = Lent(piece, None if count is None else many_bytes(rng, count))
+        kept = lent if number != 0 or piece is None else Lent(piece, None)
+        call = Call((state,) + lent.buffers(), None, None, ({},) + kept.buffers())
+        if number != 0:
+            out = (place, 0, 0)[:lent.function().answers]
+            given = {16: u32(number) + u64(place)}
+            call = call._replace(number=number, out=out, after=(given,) + kept.buffers())
+        outcome = yield lent.function(), call
+        state, number, place = outcome.after[0], outcome.number or 0, outcome.out[0]
+
+
+def single(
+    name: str,
+    types: Tuple[Union[str, int], ...],
+    answers: int,
+    make: Callable[[random.Random], Call],
+) -> Kind:
+    """Cases of one call of a function."""
+    function = Function(name, types, answers)
+
+    def calls(rng: random.Random) -> Calls:
+        yield function, make(rng)
+    return Kind(name, (function,), calls)
+
+
+KINDS = (
+    single("judge", ("bytes", 64), 3, judge_call),
+    single("store", ("bytes", "bytes"), 3, store_call),
+    single("store_limited", ("bytes", "bytes", 64), 2, store_limited_call),
+    single("write", ("bytes", 32, "bytes"), 2, write_call),
+    single("header", ("bytes", 64), 6, header_call),
+    single("chunk", ("bytes", 64, 32), 6, chunk_call),
+    single("locate", ("bytes",), 19, locate_call),
+    single("slots_valid", ("record",), 0, valid_call),
+    single("slots_fresh", (32, "record"), 2, fresh_call),
+    single("slots_start", ("record",), 2, slots_call(cases_slots.START, False)),
+    single("slots_set_active", ("record", 32), 2, slots_call(cases_slots.SET_ACTIVE, True)),
+    single("slots_modified", ("record", 32), 2, slots_call(cases_slots.MODIFIED, True)),
+    single("slots_confirm", ("record",), 2, slots_call(cases_slots.CONFIRM, False)),
+    Kind("pass", PASS_FUNCTIONS, pass_calls),
+    Kind("forged_pass", PASS_FUNCTIONS, forged_calls),
 )
 
 
 # The run.
 
-def described(number: int, function: Function, call: Call, fault: str) -> str:
-    """A difference with the case that shows it."""
+def described(function: Function, call: Call, fault: str) -> str:
+    """A difference with the call that shows it."""
     shown = [item.hex() if isinstance(item, bytes) else str(item) for item in call.arguments]
-    head = f"differential: case {number}, {PREFIX}{function.name}: {fault}"
+    head = f"{PREFIX}{function.name}: {fault}"
     return "\n".join([head] + [f"  argument {i}: {text}" for i, text in enumerate(shown)])
 
 
-def entries(library: str, functions: Sequence[Function]) -> List[Any]:
+def entries(library: str, kinds: Sequence[Kind]) -> Dict[str, Any]:
     """The library's functions, ready to be called."""
     loaded = ctypes.CDLL(library)
-    found = []
-    for function in functions:
+    found = {}
+    for function in [function for kind in kinds for function in kind.functions]:
         if not hasattr(loaded, PREFIX + function.name):
             print(f"differential: no function {PREFIX}{function.name}", flush=True)
             sys.exit(1)
         entry = getattr(loaded, PREFIX + function.name)
-        entry.argtypes, entry.restype = signature(function), ctypes.c_uint32
-        found.append(entry)
+        entry.argtypes = signature(function)
+        entry.restype = ctypes.c_uint32 if function.returns else None
+        found[function.name] = entry
     return found
 
 
+def called(foreign: Dict[str, Any], calls: Calls, number: int, rng: random.Random) -> int:
+    """Makes the calls of a case, and says how many; leaves with 1 at a difference."""
+    count = 0
+    try:
+        function, call = next(calls)
+        while True:
+            outcome = outcome_of(foreign[function.name], function, call.arguments, rng)
+            fault = fault_of(outcome, call)
+            if fault is not None:
+                shown = described(function, call, fault)
+                print(f"differential: case {number}, call {count}, {shown}", flush=True)
+                sys.exit(1)
+            count += 1
+            function, call = calls.send(outcome)
+    except StopIteration:
+        return count
+
+
 def run(
-    library: str, functions: Sequence[Function], seed: int, start: int, end: float, reached: Any
+    library: str, kinds: Sequence[Kind], seed: int, start: int, end: float, reached: Any
 ) -> None:
-    """Calls case after case until the time is over; leaves with 1 at a difference."""
-    foreign = entries(library, functions)
-    number = start
+    """Makes case after case until the time is over, and says how many calls they took."""
+    foreign = entries(library, kinds)
+    number, count = start, 0
     while time.monotonic() < end:
-        which = number % len(functions)
-        rng = random.Random(f"{seed} {number}")
-        call = functions[which].make(rng)
         reached.value = number
-        fault = fault_of(foreign[which], functions[which], call, rng)
-        if fault is not None:
-            print(described(number, functions[which], call, fault), flush=True)
-            sys.exit(1)
+        rng = random.Random(f"{seed} {number}")
+        count += called(foreign, kinds[number % len(kinds)].make(rng), number, rng)
         number += 1
-    reached.value = number
+    print(f"differential: {count} calls agree", flush=True)
 
 
-def functions_named(text: str) -> List[Function]:
-    """The functions in a list with commas; each must be in the table."""
-    known = {function.name: function for function in FUNCTIONS}
+def kinds_named(text: str) -> List[Kind]:
+    """The kinds in a list with commas; each must be in the table."""
+    known = {kind.name: kind for kind in KINDS}
     for name in text.split(","):
         if name not in known:
-            raise argparse.ArgumentTypeError(f"no function {name}; there are {', '.join(known)}")
+            raise argparse.ArgumentTypeError(f"no kind {name}; there are {', '.join(known)}")
     return [known[name] for name in text.split(",")]
 
 
@@ -472,14 +691,14 @@ def main() -> int:
     parser.add_argument("--seconds", type=float, default=60)
     parser.add_argument("--seed", type=int, default=SEED)
     parser.add_argument("--start", type=int, default=0)
-    parser.add_argument("--functions", type=functions_named, default=list(FUNCTIONS))
+    parser.add_argument("--kinds", type=kinds_named, default=list(KINDS))
     options = parser.parse_args()
     forked = multiprocessing.get_context("fork")
     reached = forked.Value("Q", options.start, lock=False)
     end = time.monotonic() + options.seconds
     library = os.path.abspath(options.library)
     child = forked.Process(
-        target=run, args=(library, options.functions, options.seed, options.start, end, reached)
+        target=run, args=(library, options.kinds, options.seed, options.start, end, reached)
     )
     child.start()
     child.join(options.seconds + LONGEST_WAIT)
@@ -487,12 +706,9 @@ def main() -> int:
         child.kill()
         print(f"differential: case {reached.value} does not end")
         return 1
-    if child.exitcode != 0:
-        if child.exitcode != 1:
-            print(f"differential: case {reached.value} ended the process: {child.exitcode}")
-        return 1
-    print(f"differential: {reached.value - options.start} calls agree")
-    return 0
+    if child.exitcode not in (0, 1):
+        print(f"differential: case {reached.value} ended the process: {child.exitcode}")
+    return 1 if child.exitcode else 0
 
 
 if __name__ == "__main__":

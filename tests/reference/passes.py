@@ -365,3 +365,17 @@ def store_finish(state: State, partition: bytes) -> Tuple[State, Answer, bytes]:
     """The storing pass is finished, lent the partition once more."""
     state, answer = finished(state, len(partition))
     return state, answer, partition
+
+
+def called(
+    state: State, piece: Optional[bytes], partition: Optional[bytes]
+) -> Tuple[State, Answer, Optional[bytes]]:
+    """Any of the calls: of the judging pass where no partition is lent, a finishing
+    where there is no piece."""
+    if partition is None:
+        if piece is None:
+            return judge_finish(state) + (None,)
+        return judge_piece(state, piece) + (None,)
+    if piece is None:
+        return store_finish(state, partition)
+    return store_piece(state, piece, partition)

@@ -6,23 +6,22 @@ Run by `python3 tests/reference/test_passes.py`.
 import itertools
 import random
 import unittest
-from typing import Dict, Iterator, List, NamedTuple, Optional, Sequence, Tuple
+from typing import Dict, List, NamedTuple, Optional, Tuple
 
 import build
+import cases_passes
 import cases_sparse
 import cases_store
 import passes
 import sparse
 import store
-import writer
+from cases_passes import P2, RAW, Pieces, at_random, by_bytes, in_two
 from cases_sparse import Case
 from passes import Answer, GoingOn, State
 from sparse import Accepted, Refusal
 
 GOING_ON = GoingOn()
-P2 = build.two_chunks()
 OLD = bytes(range(100, 112))
-RAW = build.sparse_image(4, [build.raw(b"abcdefgh", 4), build.skip(1)])
 LARGEST_LENT = 4096
 
 
@@ -138,30 +137,6 @@ def with_due(partition: bytes, due: Dict[int, int]) -> bytes:
     return bytes(after)
 
 
-# Ways to cut an image.
-
-Pieces = Sequence[bytes]
-
-
-def in_two(image: bytes) -> Iterator[Pieces]:
-    """Cut at every byte in two."""
-    for at in range(len(image) + 1):
-        yield image[:at], image[at:]
-
-
-def by_bytes(image: bytes) -> Pieces:
-    """Byte by byte."""
-    return [image[at:at + 1] for at in range(len(image))]
-
-
-def at_random(rng: random.Random, image: bytes, most: int) -> Pieces:
-    """Several pieces, some of them empty."""
-    cuts = sorted(rng.randrange(len(image) + 1) for _ in range(rng.randrange(most)))
-    cuts += cuts[:1] + [0] * rng.randrange(2)
-    cuts.sort()
-    return [image[a:b] for a, b in zip([0] + cuts, cuts + [len(image)])]
-
-
 def random_bytes(rng: random.Random, count: int) -> bytes:
     """So many bytes of any value."""
     return bytes(rng.getrandbits(8) for _ in range(count))
@@ -203,27 +178,6 @@ def boot_cases() -> List[Case]:
     p10 = build.boot_image(3, 12289, kernel=4097, ramdisk=1)
     p11 = build.boot_image(2, 6145, kernel=2048, ramdisk=1, dtb=1)
     return [Case(p10, 12), Case(p11, 12)]
-
-
-def example_cases() -> List[Case]:
-    """The sparse images of P1 to P9."""
-    flat = b"\xFF" * 4 + bytes(12)
-    p1, p9 = writer.write(b"", 4096, bytes(28)), writer.write(flat, 8, bytes(64))
-    cases = [Case(p1.output, 0), Case(p9.output, 16), Case(p9.output, 15)]
-    return cases + cases_sparse.example_cases()
-
-
-def small_cases() -> List[Case]:
-    """Accepted and refused images, to be cut at every byte."""
-    cases = example_cases()
-    cases += [Case(image, cases_store.total_length(image)) for image in cases_store.SMALL_IMAGES]
-    cases += [Case(image, 41) for image in cases_store.refused_images(41)]
-    cases += [Case(P2[:length], 12) for length in (0, 1, 27, 28, 29, 39, 40, 43, 44, 55)]
-    wide = build.two_chunks(file_header_size=36, chunk_header_size=20)
-    cases += [Case(wide, 12), Case(wide[:55], 12), Case(wide[:56], 12), Case(wide + b"\0", 12)]
-    empties = [build.raw(b"", 4), build.unknown(7, 0, b"data"), build.skip(0)]
-    cases += [Case(build.sparse_image(4, empties), 0), Case(build.sparse_image(65536, []), 3)]
-    return cases + [Case(cases_sparse.base_image(), 64), Case(cases_sparse.base_image(), 70)]
 
 
 def all_cases() -> List[Case]:
@@ -274,7 +228,7 @@ class TestWholeForm(unittest.TestCase):
 
     def test_small_images_in_every_way(self) -> None:
         rng = random.Random(13)
-        for case in small_cases():
+        for case in cases_passes.small_images():
             old = random_bytes(rng, case.partition_length)
             looks = [
                 look(case.image[:come], len(case.image), case.partition_length)
@@ -371,7 +325,8 @@ class TestMoments(unittest.TestCase):
             self.assertEqual(refusal, verdict if isinstance(verdict, Refusal) else None)
 
     def test_other_announced_lengths(self) -> None:
-        for (image, room), more in itertools.product(small_cases(), (-20, -13, -1, 1, 4, 12, 500)):
+        images = cases_passes.small_images()
+        for (image, room), more in itertools.product(images, (-20, -13, -1, 1, 4, 12, 500)):
             length = max(0, len(image) + more)
             refusal, come = self.moment(image[:length], length, room)
             self.assertEqual(look(image[:come], length, room).refusal, refusal)
@@ -620,13 +575,6 @@ class TestMixedCalls(unittest.TestCase):
             self.assertEqual(passes.judge_finish(state)[1], Accepted(2, 1))
 
 
-class Call(NamedTuple):
-    """A call of either pass: a piece, or None to finish; a partition, or None to judge."""
-
-    piece: Optional[bytes]
-    partition: Optional[bytes]
-
-
 class History:
     """The slow formulation of any calls: the bytes taken and the refusal given."""
 
@@ -635,75 +583,54 @@ class History:
         self.taken = b""
         self.given: Optional[Refusal] = None
 
-    def early(self, call: Call) -> Optional[Refusal]:
+    def early(self, piece: Optional[bytes], partition: Optional[bytes]) -> Optional[Refusal]:
         """"tested 16, 14, 15, before any of 01's"."""
-        if call.partition is not None and len(call.partition) != self.room:
+        if partition is not None and len(partition) != self.room:
             return Refusal(16, 0)
-        if call.piece is not None and len(self.taken + call.piece) > self.length:
+        if piece is not None and len(self.taken + piece) > self.length:
             return Refusal(14, 0)
-        if call.piece is None and len(self.taken) < self.length:
+        if piece is None and len(self.taken) < self.length:
             return Refusal(15, 0)
         return None
 
-    def answer(self, call: Call) -> Tuple[Answer, Optional[bytes]]:
-        """What a call answers and leaves."""
-        self.given = self.given or self.early(call)
+    def answer(
+        self, piece: Optional[bytes], partition: Optional[bytes]
+    ) -> Tuple[Answer, Optional[bytes]]:
+        """What a call answers and leaves: a finishing where there is no piece, one of the
+        judging pass where no partition is lent."""
+        self.given = self.given or self.early(piece, partition)
         if self.given is not None:
-            return self.given, call.partition
+            return self.given, partition
         before = look(self.taken, self.length, self.room)
-        self.taken += call.piece or b""
+        self.taken += piece or b""
         now = look(self.taken, self.length, self.room)
         self.given = now.refusal
-        left = call.partition
-        if left is not None:
+        if partition is not None:
             new = {at: byte for at, byte in now.due.items() if at not in before.due}
-            left = with_due(left, new)
+            partition = with_due(partition, new)
         if self.given is not None:
-            return self.given, left
-        if call.piece is not None:
-            return GOING_ON, left
-        return sparse.judge(self.taken, self.room), left
-
-
-def answered(state: State, call: Call) -> Tuple[State, Answer, Optional[bytes]]:
-    """The call given to the passes."""
-    if call.partition is None:
-        if call.piece is None:
-            return passes.judge_finish(state) + (None,)
-        return passes.judge_piece(state, call.piece) + (None,)
-    if call.piece is None:
-        return passes.store_finish(state, call.partition)
-    return passes.store_piece(state, call.piece, call.partition)
+            return self.given, partition
+        if piece is not None:
+            return GOING_ON, partition
+        return sparse.judge(self.taken, self.room), partition
 
 
 class TestAnyCalls(unittest.TestCase):
     """Calls of both passes in any order, with any lengths."""
 
-    def random_call(self, rng: random.Random, piece: Optional[bytes], lent: bytes) -> Call:
-        """Now and then finished early, fed a byte more or lent another partition."""
-        if rng.randrange(40) == 0:
-            piece = None
-        if piece is not None and rng.randrange(30) == 0:
-            piece += b"\0"
-        chance = rng.randrange(40)
-        if chance == 0:
-            lent = lent + b"\0" if rng.randrange(2) == 0 else lent[1:]
-        elif chance < 4:
-            lent = random_bytes(rng, len(lent))
-        return Call(piece, None if rng.randrange(4) == 0 else lent)
-
     def follow(self, rng: random.Random, image: bytes, length: int, room: int) -> str:
         """Follows a pass to its end, and says how it ended."""
         state, history = passes.begin(length, room), History(length, room)
-        partition = random_bytes(rng, room)
-        pieces: List[Optional[bytes]] = list(at_random(rng, image, 7))
+        partition = random_bytes(rng, room + 40)
         answer: Answer = GOING_ON
-        for piece in pieces + [None] * rng.randrange(1, 3):
-            call = self.random_call(rng, piece, partition)
-            state, answer, left = answered(state, call)
-            self.assertEqual((answer, left), history.answer(call))
-            if left is not None and len(left) == room:
-                partition = left
+        taken = cases_passes.passes_taken(rng, room)
+        for piece, lent in cases_passes.random_calls(rng, at_random(rng, image, 7), taken):
+            given = None if lent is None else partition[:lent]
+            state, answer, left = passes.called(state, piece, given)
+            self.assertEqual((answer, left), history.answer(piece, given))
+            partition = (left or b"") + partition[len(left or b""):]
+            if rng.randrange(13) == 0:
+                partition = random_bytes(rng, len(partition))
         return str(answer.number) if isinstance(answer, Refusal) else type(answer).__name__
 
     def test_random_calls(self) -> None:
@@ -712,8 +639,7 @@ class TestAnyCalls(unittest.TestCase):
         for _ in range(900):
             image = cases_store.random_image(rng)
             if rng.randrange(4) == 0:
-                at = rng.randrange(len(image))
-                image = build.with_bytes(image, at, bytes([image[at] ^ 1 << rng.randrange(8)]))
+                image = cases_passes.with_a_bit_flipped(rng, image)
             total = cases_store.total_length(image)
             room = total % 300 + rng.choice([0, 0, 0, 5])
             length = len(image) + rng.choice([0] * 12 + [-1, 1, 4, 16, -9])

@@ -15,13 +15,15 @@ import sparse
 import store
 import vectors
 import writer
+from passes import Answer, GoingOn
 from slots import Record, Slot
+from test_passes import History
 
 LARGEST_IMAGE = 65536
 LARGEST_STORED_IMAGE = 8192
 LARGEST_PARTITION = 4096
 LARGEST_WRITTEN = 69632
-LARGEST_OUTPUT = 400_000
+LARGEST_OUTPUT = 450_000
 
 Lines = Iterator[Tuple[int, ...]]
 
@@ -113,22 +115,6 @@ def store_step(
     return answer + (crc.checksum(after),), after, at + 24 + count
 
 
-def store_lines(data: bytes) -> Lines:
-    start = 0
-    while start < len(data):
-        size, length, seed, steps = struct.unpack_from("<IIII", data, start)
-        assert length <= LARGEST_PARTITION
-        case = data[start:start + size]
-        start += size
-        partition = bytes((seed + 7 * i) % 256 for i in range(length))
-        values: Tuple[int, ...] = ()
-        at = 16
-        for _ in range(steps):
-            answer, partition, at = store_step(case, at, partition)
-            values += answer
-        yield values
-
-
 def write_lines(data: bytes) -> Lines:
     at = 0
     while at < len(data):
@@ -143,6 +129,67 @@ def write_lines(data: bytes) -> Lines:
         yield number, image_length, crc.checksum(after)
 
 
+def answer_values(answer: Answer, finishing: bool) -> Tuple[int, ...]:
+    values = (0, 0, 0, 0) if isinstance(answer, GoingOn) else verdict_values(answer)
+    return values if finishing else values[:2]
+
+
+def pass_call(
+    case: bytes, at: int, history: History, partition: bytes
+) -> Tuple[Tuple[int, ...], bytes]:
+    """The values of a call of a pass, and the partition after it."""
+    form, count, piece_at, size = struct.unpack_from("<HHHH", case, at)
+    assert count <= len(partition) and piece_at + size <= len(case)
+    assert form in (3, 5) or (form in (4, 6) and piece_at == size == 0)
+    assert form in (5, 6) or count == 0
+    piece = case[piece_at:piece_at + size] if form in (3, 5) else None
+    lent = partition[:count] if form in (5, 6) else None
+    answer, left = history.answer(piece, lent)
+    values = answer_values(answer, piece is None) + (crc.checksum(left or b""),)
+    return values, (left or b"") + partition[count:]
+
+
+def pass_values(case: bytes, first: bytes, steps: int) -> Tuple[int, ...]:
+    """The values of the calls of all passes of a case."""
+    values: Tuple[int, ...] = ()
+    at = 16
+    for _ in range(steps):
+        if case[at] == 2:
+            history, partition = History(*struct.unpack_from("<QQ", case, at + 4)), first
+            at += 20
+        else:
+            answer, partition = pass_call(case, at, history, partition)
+            values += answer
+            at += 8
+    return values
+
+
+def store_values(case: bytes, partition: bytes, steps: int) -> Tuple[int, ...]:
+    """The values of the steps of a case."""
+    values: Tuple[int, ...] = ()
+    at = 16
+    for _ in range(steps):
+        answer, partition, at = store_step(case, at, partition)
+        values += answer
+    return values
+
+
+Steps = Callable[[bytes, bytes, int], Tuple[int, ...]]
+
+
+def lines_of_steps(read: Steps) -> Callable[[bytes], Lines]:
+    """The reader of a group whose cases are steps on one partition."""
+    def lines(data: bytes) -> Lines:
+        start = 0
+        while start < len(data):
+            size, length, seed, steps = struct.unpack_from("<IIII", data, start)
+            assert length <= LARGEST_PARTITION
+            first = bytes((seed + 7 * i) % 256 for i in range(length))
+            yield read(data[start:start + size], first, steps)
+            start += size
+    return lines
+
+
 READERS: Dict[str, Callable[[bytes], Lines]] = {
     "crc": crc_lines,
     "fields": field_lines,
@@ -150,7 +197,8 @@ READERS: Dict[str, Callable[[bytes], Lines]] = {
     "slotsum": slot_sum_lines,
     "boot": boot_lines,
     "sparse": sparse_lines,
-    "store": store_lines,
+    "store": lines_of_steps(store_values),
+    "passes": lines_of_steps(pass_values),
     "write": write_lines,
 }
 

@@ -87,6 +87,19 @@ store    case:  size u32 (of the whole case), length u32 (at most 4,096), seed u
                 and the COUNT of blocks that it stored, 0 when refused (form 1);
                 then the CHECKSUM of the partition after the torn block.
 
+passes   case:  size, length, seed, steps as in `store`; each step; then some bytes.
+         step:  form u16, lent u16, at u16, count u16; where form is 2: form u16, 0
+                u16, image length u64, partition length u64
+         A step of form 2 begins a pass, which is told the two lengths, and gives the
+                partition its first bytes again.  Other steps are calls of that pass,
+                in the form 3 a piece for the judging pass, 4 its finishing, 5 a
+                piece for the storing pass, 6 its finishing.  The piece is the count
+                bytes at offset `at` of the case; the storing pass is lent the first
+                `lent` bytes of the partition.  What a form lacks is 0.
+         values: for each step but those of form 2 NUMBER of the refusal or 0; its
+                PLACE, or 0; of a finishing blocks WRITTEN and SKIPPED, both 0 unless
+                it accepts; then the CHECKSUM of the bytes that were lent.
+
 write    case:  block size u32, length u32 (at most 69,632), flat bytes in the
                 form of an image
          The output has `length` bytes, byte i being (11 + 5 * i) % 256 at first.
@@ -103,6 +116,7 @@ from typing import Callable, Dict, List, Sequence, Tuple
 import cases_boot
 import cases_crc
 import cases_fields
+import cases_passes
 import cases_slots
 import cases_sparse
 import cases_store
@@ -120,6 +134,7 @@ GROUPS: Tuple[Tuple[str, Callable[[random.Random], Group]], ...] = (
     ("boot", cases_boot.group),
     ("sparse", cases_sparse.group),
     ("store", cases_store.group),
+    ("passes", cases_passes.group),
     ("write", cases_write.group),
 )
 

@@ -6,6 +6,7 @@
 mod crc_cases;
 mod field_cases;
 mod image_cases;
+mod pass_cases;
 mod slot_cases;
 mod store_cases;
 mod support;
@@ -31,7 +32,9 @@ const SPARSE: usize = 6;
 
 const STORE: usize = 7;
 
-const WRITE: usize = 8;
+const PASSES: usize = 8;
+
+const WRITE: usize = 9;
 
 // The lines of a group's cases, one after the other: the group's name, the case's number, its values.
 fn cases(group: usize, name: &[u8], file: &[u8]) {
@@ -48,7 +51,7 @@ fn cases(group: usize, name: &[u8], file: &[u8]) {
             SLOT_BLOCKS => slot_cases::block(rest),
             BOOT => image_cases::boot(rest),
             SPARSE => image_cases::sparse(rest),
-            STORE => store_cases::case(rest),
+            STORE | PASSES => store_cases::case(rest),
             _ => image_cases::write(rest),
         };
         io::write_all(STDOUT_FILENO, b"\n");

@@ -1,4 +1,5 @@
-// Images stored on one partition, one after the other, whole or cut, with blocks torn in between.
+// Images stored on one partition, one after the other: whole, or cut and with blocks torn in between, or by passes.
+use crate::pass_cases::take_call;
 use crate::support::build;
 use crate::support::least;
 use crate::support::part;
@@ -32,9 +33,12 @@ fn store(case: &[u8], step: &[u8], partition: &mut [u8]) {
     value(out[1]);
 }
 
-// One step: an image stored, then a block torn; prints the answer and the partition's checksum, and
-// answers how many bytes the step takes.
-fn take_step(case: &[u8], step: &[u8], partition: &mut [u8]) -> usize {
+// One step: a call of a pass; or an image stored, then a block torn. Prints the answer and the partition's checksum,
+// and answers how many bytes the step takes.
+fn take_step(case: &[u8], step: &[u8], pass: &mut [u8; 104], partition: &mut [u8]) -> usize {
+    if 1 < fields_read::read16(step, 0) {
+        return take_call(case, step, pass, partition);
+    }
     store(case, step, partition);
     let count = fields_read::read32(step, 20) as usize;
     fields_write::copy(
@@ -52,10 +56,11 @@ pub(crate) fn case(rest: &[u8]) -> usize {
     let n = least(fields_read::read32(rest, 4) as usize, &buf);
     let partition = &mut buf[..n];
     prepare(partition, (fields_read::read32(rest, 8) % 256) as u8, 7);
+    let mut pass = [0u8; 104];
     let mut at = HEAD;
     let mut left = fields_read::read32(rest, 12);
     while 0 < left {
-        let taken = take_step(rest, part(rest, at, rest.len()), partition);
+        let taken = take_step(rest, part(rest, at, rest.len()), &mut pass, partition);
         at = past(rest, at, taken);
         left = left - 1;
     }

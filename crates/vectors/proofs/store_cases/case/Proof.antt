@@ -6,10 +6,10 @@ use Rattle.vectors.proofs.store_cases.case.Statement.{statement}
 use Rattle.vectors.proofs.store_cases.case.Tie as tie
 
 abbrev Inv-loop : tie.InvT-loop
-Inv-loop rest n partition₀ at₀ left₀ partition at left = length partition ≡ length partition₀
+Inv-loop rest n partition₀ pass₀ at₀ left₀ partition pass at left = length partition ≡ length partition₀
 
 abbrev μ-loop : tie.MeasureT-loop
-μ-loop rest n partition₀ at₀ left₀ partition at left = left
+μ-loop rest n partition₀ pass₀ at₀ left₀ partition pass at left = left
 
 buffer-requires : tie.Need-buffer-requires Inv-loop μ-loop
 buffer-requires c κs = search needs
