@@ -19,7 +19,7 @@
 #define WORDS 2048
 #define PAINT 0x9E3779B97F4A7C15u
 
-/* Raw data from 1,024 bytes on go through the checksum in four lanes. */
+/* Raw data of so many bytes go through the checksum in four lanes. */
 #define BLOCK 1024
 #define BLOCKS 10
 #define ROOM 16384

@@ -1,8 +1,8 @@
 -- The state as bytes: writing and reading are a round trip both ways.
 -- Assumes nothing.
-use mathlib.Core.Path.{_≡_, refl, sym, ap, _∙_}
+use mathlib.Core.Path.{_≡_, sym, ap, _∙_}
 use mathlib.Core.List.{List, [], _∷_, _++_}
-use Prim.Native.Nat.{ℕ, _+_}
+use Prim.Native.Nat.{ℕ}
 use native.Mathlib.Omega.{arith}
 use lib.ListN.{length, take, drop, length-append, length-drop, take-append-drop}
 use lib.Seq.{take-at, drop-at, take-all, drop-drop}
@@ -11,8 +11,8 @@ use Rattle.fields_rules.proofs.Laws.{number-bytes}
 use Rattle.fields_rules.proofs.Packed.{fieldsAt, packed-again}
 use Rattle.sparse_stream_rules.specs.declared.Kept.{Kept}
 use Rattle.sparse_stream_rules.specs.declared.Pass.{Pass}
-use Rattle.sparse_stream_bytes.specs.Layout.{keptBytes, passBytes, walkOf, keptOf, passOf}
-use Rattle.sparse_stream_bytes.specs.Promises.{Fits, Written, Promises}
+use Rattle.sparse_stream_bytes.specs.Layout.{keptBytes, passBytes, keptOf, passOf}
+use Rattle.sparse_stream_bytes.specs.Promises.{Fits, Promises}
 
 -- the parts of the bytes that are kept
 kept-again : (k : Kept) → length (k .file) ≡ 28 → length (k .chunk) ≡ 12 → length (k .word) ≡ 4

@@ -1,7 +1,7 @@
 -- The exits of the inner functions: what each returns, from what the tests before it left.
 -- Assumes nothing.
 use mathlib.Core.Path.{_≡_, refl, sym, ap, _∙_}
-use mathlib.Core.Bool.{Bool, true, false, not, _&&_}
+use mathlib.Core.Bool.{Bool, true, false, not, cond, _&&_}
 use mathlib.Core.List.{List, [], _∷_}
 use Prim.Native.Nat.{ℕ, zero, suc, _+_, _-_, _*_, _≤_, _<_, zero-le}
 use native.Mathlib.Omega.{arith}
@@ -16,6 +16,7 @@ use Rattle.sparse_rules.specs.declared.Kind.{Kind}
 use Rattle.sparse_rules.specs.Header.{magic, major, fileHeaderSize, chunkHeaderSize, blockSize, totalBlocks, headerSizeRight, blockSizeRight, headerTests}
 use Rattle.sparse_rules.specs.Chunks.{sizeRight}
 use Rattle.sparse_stream_rules.specs.declared.Pass.{Pass}
+use Rattle.sparse_stream_rules.specs.Known.{passes, refuses, testedNumber}
 use Rattle.sparse_stream_rules.specs.State.{headOf, kindNow, blocksNow, sizeNow, stopOr}
 use Rattle.sparse_stream_rules.specs.Steps.{arrival, arrived, settled, headerNumber, chunkNumber}
 
@@ -81,17 +82,16 @@ module _ (s : List ℕ) (came len room : ℕ) where
                         (le-ltb came 0 zero-le, le-ltb _ _ long, le-ltb _ _ four, eq-eqb _ _ m, le-ltb _ _ six, eq-eqb _ _ v, le-ltb _ _ twelve, z, le-ltb _ _ sixteen, b, lt-ltb _ _ h)
 
                     module _ (twenty : 20 ≤ came) where
-                      pub number-room : room < totalBlocks s * blockSize s → 6 ≡ headerNumber s came len room
+                      pub number-last : headerNumber s came len room ≡ cond (ltb room (totalBlocks s * blockSize s)) 6 0
                       unfolding headerNumber headerTests
-                      number-room h =
+                      number-last =
                           rw
-                          (le-ltb came 0 zero-le, le-ltb _ _ long, le-ltb _ _ four, eq-eqb _ _ m, le-ltb _ _ six, eq-eqb _ _ v, le-ltb _ _ twelve, z, le-ltb _ _ sixteen, b, le-ltb _ _ twenty, lt-ltb _ _ h)
-
-                      pub number-passes : totalBlocks s * blockSize s ≤ room → 0 ≡ headerNumber s came len room
-                      unfolding headerNumber headerTests
-                      number-passes h =
-                          rw
-                          (le-ltb came 0 zero-le, le-ltb _ _ long, le-ltb _ _ four, eq-eqb _ _ m, le-ltb _ _ six, eq-eqb _ _ v, le-ltb _ _ twelve, z, le-ltb _ _ sixteen, b, le-ltb _ _ twenty, le-ltb _ _ h)
+                          (le-ltb came 0 zero-le, le-ltb _ _ long, le-ltb _ _ four, eq-eqb _ _ m, le-ltb _ _ six, eq-eqb _ _ v, le-ltb _ _ twelve, z, le-ltb _ _ sixteen, b, le-ltb _ _ twenty)
+                          (by (ltb room (totalBlocks s * blockSize s)))
+                        where
+                          by : (t : Bool) → testedNumber (cond t (refuses 6) passes) ≡ cond t 6 0
+                          by true = refl
+                          by false = refl
 
 -- a refusal by a number
 pub stop-number : (n place : ℕ) (x y : Pass) → (n ≡ 0 → ⊥)
@@ -183,17 +183,9 @@ module _ (x : Pass) (h : Header) (k : Kind) (n z : ℕ) (eh : h ≡ headOf x) (e
       inside : x .walk .next .at + sizeNow x ≤ x .told .length
       inside = let w : sizeNow x ≤ x .told .length - x .walk .next .at = rw ez at o in omega arith
 
-      pub chunk-over : h .total < x .walk .next .first + n → 9 ≡ chunkNumber x
+      pub chunk-last : chunkNumber x ≡ cond (ltb (h .total) (x .walk .next .first + n)) 9 0
       unfolding chunkNumber
-      chunk-over t =
-          let q : headOf x .total < x .walk .next .first + blocksNow x = rw (eh, en) at t in
-          rw (right, le-ltb _ _ inside, lt-ltb _ _ q)
-
-      pub chunk-right : x .walk .next .first + n ≤ h .total → 0 ≡ chunkNumber x
-      unfolding chunkNumber
-      chunk-right t =
-          let q : x .walk .next .first + blocksNow x ≤ headOf x .total = rw (eh, en) at t in
-          rw (right, le-ltb _ _ inside, le-ltb _ _ q)
+      chunk-last = rw (right, le-ltb _ _ inside, eh, en)
 
 -- what a chunk that is not refused is known by
 pub chunk-fits : (x : Pass) → chunkNumber x ≡ 0

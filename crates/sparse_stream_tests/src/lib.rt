@@ -1,6 +1,7 @@
 // The tests that the state of a pass makes as bytes come: of the file header, where a chunk begins or the image ends, and
 // of a chunk header; and the refusal that follows.
 ghost use mathlib.Core.Path.{_≡_};
+ghost use mathlib.Core.Bool.{cond};
 ghost use Rattle.sparse_stream_rules.specs.State.{stopOr};
 ghost use Rattle.sparse_stream_rules.specs.Steps.{headerNumber, opened, arrival, arrived, settled, chunkNumber};
 use sparse_rules::Refusal;
@@ -8,6 +9,13 @@ use sparse_stream_rules::Pass;
 use sparse_stream_state::blocks_now;
 use sparse_stream_state::kind_now;
 use sparse_stream_state::size_now;
+
+// The number of a refusal where its test applies, and 0 where it does not.
+fn number_if(applies: bool, number: u32) -> u32
+    ensures { λ r. ⌜ r ≡ cond applies number 0 ⌝ }
+{
+    if applies { number } else { 0 }
+}
 
 // The first of refusals 1 to 6 that applies, as far as their bytes have come; 0 where none does.
 pub fn header_number(file: &[u8; 28], came: usize, len: usize, room: u64) -> u32
@@ -40,10 +48,7 @@ pub fn header_number(file: &[u8; 28], came: usize, len: usize, room: u64) -> u32
             if came < 20 {
                 return 0;
             }
-            if room < sparse_read::bytes_of(header.total, header.block) {
-                return 6;
-            }
-            return 0;
+            return number_if(room < sparse_read::bytes_of(header.total, header.block), 6);
         }
         return 5;
     }
@@ -138,10 +143,7 @@ pub fn chunk_number(x: Pass) -> u32
         if x.told.length - x.walk.next.at < size as usize {
             return 7;
         }
-        if (header.total as u64) < x.walk.next.first as u64 + blocks as u64 {
-            return 9;
-        }
-        return 0;
+        return number_if((header.total as u64) < x.walk.next.first as u64 + blocks as u64, 9);
     }
     8
 }

@@ -1,5 +1,6 @@
 -- `sparse_stream_tests::chunk_number` meets its contract. Assumes nothing.
-use Rattle.sparse_stream_rules.proofs.StateLaws.{chunk-past, chunk-short, chunk-over, chunk-right, chunk-wrong}
+use mathlib.Core.Path.{sym, _∙_}
+use Rattle.sparse_stream_rules.proofs.StateLaws.{chunk-past, chunk-short, chunk-last, chunk-wrong}
 use borrow.Author.Needs.{needs}
 use Rattle.sparse_stream_tests.proofs.chunk_number.Statement.{statement}
 use Rattle.sparse_stream_tests.proofs.chunk_number.Tie as tie
@@ -50,17 +51,20 @@ returns-2 c =
     (kind-now .ensures) (blocks-now .ensures) (size-now .ensures) (size-right .result) (size-right .ensures) (if1 .taken)
     (c .before .before .if2 .left) (c .if3 .taken)
 
-cast-if4 : tie.Need-cast-if4
-cast-if4 c = search needs
+cast-number-if : tie.Need-cast-number-if
+cast-number-if c = search needs
 
-cast-if4-2 : tie.Need-cast-if4-2
-cast-if4-2 c = search needs
+cast-number-if-2 : tie.Need-cast-number-if-2
+cast-number-if-2 c = search needs
 
-cast-if4-3 : tie.Need-cast-if4-3
-cast-if4-3 c = search needs
+cast-number-if-3 : tie.Need-cast-number-if-3
+cast-number-if-3 c = search needs
 
-add-if4 : tie.Need-add-if4
-add-if4 c = search needs
+add-number-if : tie.Need-add-number-if
+add-number-if c = search needs
+
+number-if-requires : tie.Need-number-if-requires
+number-if-requires c κs = search needs
 
 returns-3 : tie.Need-returns-3
 returns-3 c =
@@ -75,29 +79,14 @@ returns-3 c =
     let if1 = c .before .before .before .before .before .before .before .if1 in
     let if2 = c .before .before .before .before .before .if2 in
     let if3 = c .before .before .before .if3 in
-    chunk-over (args .x) (read-header .result) (kind-now .result) (blocks-now .result) (size-now .result) (read-header .ensures)
+    c .number-if .ensures
+    ∙ sym
+    (chunk-last (args .x) (read-header .result) (kind-now .result) (blocks-now .result) (size-now .result) (read-header .ensures)
     (kind-now .ensures) (blocks-now .ensures) (size-now .ensures) (size-right .result) (size-right .ensures) (if1 .taken)
-    (if2 .left) (if3 .left) (c .if4 .taken)
+    (if2 .left) (if3 .left))
 
 returns-4 : tie.Need-returns-4
 returns-4 c =
-    let args = c .before .before .before .before .before .before .before .before .before .before .before .before .before .before
-    .before .args in
-    let read-header = c .before .before .before .before .before .before .before .before .before .before .before .before .read-header
-    in
-    let blocks-now = c .before .before .before .before .before .before .before .before .before .before .before .blocks-now in
-    let size-now = c .before .before .before .before .before .before .before .before .before .before .size-now in
-    let kind-now = c .before .before .before .before .before .before .before .before .before .kind-now in
-    let size-right = c .before .before .before .before .before .before .before .before .size-right in
-    let if1 = c .before .before .before .before .before .before .before .if1 in
-    let if2 = c .before .before .before .before .before .if2 in
-    let if3 = c .before .before .before .if3 in
-    chunk-right (args .x) (read-header .result) (kind-now .result) (blocks-now .result) (size-now .result) (read-header .ensures)
-    (kind-now .ensures) (blocks-now .ensures) (size-now .ensures) (size-right .result) (size-right .ensures) (if1 .taken)
-    (if2 .left) (if3 .left) (c .if4 .left)
-
-returns-5 : tie.Need-returns-5
-returns-5 c =
     let args = c .before .before .before .before .before .before .before .before .args in
     let read-header = c .before .before .before .before .before .read-header in
     let blocks-now = c .before .before .before .before .blocks-now in
@@ -120,10 +109,10 @@ chunk-number-spec =
     returns
     cast-if3
     returns-2
-    cast-if4
-    cast-if4-2
-    cast-if4-3
-    add-if4
+    cast-number-if
+    cast-number-if-2
+    cast-number-if-3
+    add-number-if
+    number-if-requires
     returns-3
-    returns-4
-    returns-5)
+    returns-4)

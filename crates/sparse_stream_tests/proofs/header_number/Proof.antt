@@ -1,7 +1,7 @@
 -- `sparse_stream_tests::header_number` meets its contract. Assumes nothing.
 use mathlib.Core.Path.{sym, _∙_}
 use Rattle.sparse_rules.proofs.Refusals.{sizes-is, block-is, bytes-are}
-use Rattle.sparse_stream_rules.proofs.StateLaws.{number-short, number-none, number-magic, number-six, number-major, number-twelve, number-sizes, number-sixteen, number-block, number-twenty, number-room, number-passes}
+use Rattle.sparse_stream_rules.proofs.StateLaws.{number-short, number-none, number-magic, number-six, number-major, number-twelve, number-sizes, number-sixteen, number-block, number-twenty, number-last}
 use borrow.Author.Needs.{needs}
 use Rattle.sparse_stream_tests.proofs.header_number.Statement.{statement}
 use Rattle.sparse_stream_tests.proofs.header_number.Tie as tie
@@ -118,6 +118,9 @@ returns-8 c =
 bytes-of-requires : tie.Need-bytes-of-requires
 bytes-of-requires c κs = search needs
 
+number-if-requires : tie.Need-number-if-requires
+number-if-requires c κs = search needs
+
 returns-9 : tie.Need-returns-9
 returns-9 c =
     let args = c .before .before .before .before .before .before .before .before .before .before .before .before .before .before
@@ -141,47 +144,18 @@ returns-9 c =
     let if8 = c .before .before .before .before .before .if8 in
     let block-right = c .before .before .before .before .block-right in
     let if9 = c .before .before .before .if9 in
-    number-room (args .file .now) (args .came) (args .len) (args .room) (if1 .left) (if2 .left) (sym (read32 .ensures) ∙ if3 .left)
+    c .number-if .ensures
+    ∙ rw (bytes-are (args .file .now) (read-header .result) (read-header .ensures) (c .before .bytes-of .ensures))
+    (sym
+    (number-last (args .file .now) (args .came) (args .len) (args .room) (if1 .left) (if2 .left) (sym (read32 .ensures) ∙ if3 .left)
     (if4 .left) (sym (read16 .ensures) ∙ if5 .left) (if6 .left)
     (sizes-is (args .file .now) (args .len) (read-header .result) (read-header .ensures) (sizes-right .ensures) (if7 .taken))
     (if8 .left)
     (block-is (args .file .now) (read-header .result) (read-header .ensures) (block-right .ensures) (if9 .taken))
-    (c .before .before .if10 .left)
-    (rw (bytes-are (args .file .now) (read-header .result) (read-header .ensures) (c .before .bytes-of .ensures)) at (c .if11 .taken))
+    (c .before .before .if10 .left)))
 
 returns-10 : tie.Need-returns-10
 returns-10 c =
-    let args = c .before .before .before .before .before .before .before .before .before .before .before .before .before .before
-    .before .before .before .before .before .before .args in
-    let if1 = c .before .before .before .before .before .before .before .before .before .before .before .before .before .before
-    .before .before .before .before .before .if1 in
-    let if2 = c .before .before .before .before .before .before .before .before .before .before .before .before .before .before
-    .before .before .before .before .if2 in
-    let read32 = c .before .before .before .before .before .before .before .before .before .before .before .before .before .before
-    .before .before .read32 in
-    let if3 = c .before .before .before .before .before .before .before .before .before .before .before .before .before .before
-    .before .if3 in
-    let if4 = c .before .before .before .before .before .before .before .before .before .before .before .before .before .before .if4
-    in
-    let read16 = c .before .before .before .before .before .before .before .before .before .before .before .before .read16 in
-    let if5 = c .before .before .before .before .before .before .before .before .before .before .before .if5 in
-    let if6 = c .before .before .before .before .before .before .before .before .before .before .if6 in
-    let read-header = c .before .before .before .before .before .before .before .before .read-header in
-    let sizes-right = c .before .before .before .before .before .before .before .sizes-right in
-    let if7 = c .before .before .before .before .before .before .if7 in
-    let if8 = c .before .before .before .before .before .if8 in
-    let block-right = c .before .before .before .before .block-right in
-    let if9 = c .before .before .before .if9 in
-    number-passes (args .file .now) (args .came) (args .len) (args .room) (if1 .left) (if2 .left)
-    (sym (read32 .ensures) ∙ if3 .left) (if4 .left) (sym (read16 .ensures) ∙ if5 .left) (if6 .left)
-    (sizes-is (args .file .now) (args .len) (read-header .result) (read-header .ensures) (sizes-right .ensures) (if7 .taken))
-    (if8 .left)
-    (block-is (args .file .now) (read-header .result) (read-header .ensures) (block-right .ensures) (if9 .taken))
-    (c .before .before .if10 .left)
-    (rw (bytes-are (args .file .now) (read-header .result) (read-header .ensures) (c .before .bytes-of .ensures)) at (c .if11 .left))
-
-returns-11 : tie.Need-returns-11
-returns-11 c =
     let args = c .before .before .before .before .before .before .before .before .before .before .before .before .before .before
     .before .before .before .args in
     let if1 = c .before .before .before .before .before .before .before .before .before .before .before .before .before .before
@@ -204,8 +178,8 @@ returns-11 c =
     (c .before .before .if8 .left)
     (block-is (args .file .now) (read-header .result) (read-header .ensures) (c .before .block-right .ensures) (c .if9 .left))
 
-returns-12 : tie.Need-returns-12
-returns-12 c =
+returns-11 : tie.Need-returns-11
+returns-11 c =
     let args = c .before .before .before .before .before .before .before .before .before .before .before .before .before .before
     .args in
     let if1 = c .before .before .before .before .before .before .before .before .before .before .before .before .before .if1 in
@@ -239,7 +213,7 @@ header-number-spec =
     block-right-requires
     returns-8
     bytes-of-requires
+    number-if-requires
     returns-9
     returns-10
-    returns-11
-    returns-12)
+    returns-11)

@@ -1,5 +1,5 @@
 -- `tarpaulark_passes::hand_over` meets its contract. Assumes nothing.
-use mathlib.Core.Path.{refl, sym}
+use mathlib.Core.Path.{refl}
 use borrow.Author.Tests.{lt-ltb, le-ltb}
 use borrow.Author.Needs.{needs}
 use Rattle.tarpaulark_passes.proofs.hand_over.Statement.{statement}
