@@ -143,7 +143,10 @@ pub fn chunk_number(x: Pass) -> u32
         if x.told.length - x.walk.next.at < size as usize {
             return 7;
         }
-        return number_if((header.total as u64) < x.walk.next.first as u64 + blocks as u64, 9);
+        return number_if(
+            (header.total as u64) < x.walk.next.first as u64 + blocks as u64,
+            9,
+        );
     }
     8
 }
