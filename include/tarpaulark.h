@@ -311,7 +311,8 @@ uint32_t tarpaulark_chunk(
  * image. For an image that is accepted, fed to a storing pass of which each call
  * is lent the partition as the last left it, that pass answers and stores what
  * tarpaulark_store does; left at any moment before that, it has stored some first
- * blocks, as a cut has, and the next block may be stored in part.
+ * blocks, as a cut has, and the next block may be stored in part. After a cut,
+ * begin anew with the first image of the list, from its first byte.
  *
  * So judge the whole image by a judging pass first. A storing pass stores each
  * byte as it comes due: a raw block as far as it came, a fill chunk whole once its
