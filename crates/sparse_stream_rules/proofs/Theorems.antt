@@ -1,15 +1,19 @@
 -- The theorems about passes.
 -- Assumes nothing.
 use mathlib.Core.Path.{_≡_, refl, ap, ap₂, _∙_, subst}
+use mathlib.Core.Bool.{Bool, true, false, cond}
 use mathlib.Core.List.{List, _∷_}
-use Prim.Native.Nat.{ℕ}
+use Prim.Native.Nat.{ℕ, _-_}
+use lib.Dec.{ltb}
 use lib.ListN.{length}
-use Rattle.rules.specs.Answer.{Answer}
-use Rattle.sparse_rules.specs.Answers.{Counts, answer}
+use borrow.Author.Tests.{ltb-true}
+use Rattle.rules.specs.Answer.{Answer, refused, HasNumber}
+use Rattle.sparse_rules.specs.Answers.{Counts, counts, answer}
 use Rattle.sparse_store_rules.specs.Runs.{run, answers, Cut, past, Reached, start, again}
 use Rattle.sparse_store_rules.proofs.Restart.{restart}
-use Rattle.sparse_stream_rules.specs.Theorems.{PassCut, PassReached, PassRun, ImageBytes, PassRestart, OnlyDue, EachStores, EachAnswers}
+use Rattle.sparse_stream_rules.specs.Theorems.{PassCut, PassReached, PassRun, ImageBytes, PassRestart, OnlyDue, EachStores, EachAnswers, RefusalNumbers}
 use Rattle.sparse_stream_rules.specs.Theorems as passes
+use Rattle.sparse_stream_rules.specs.States.{answerNow}
 use Rattle.sparse_stream_rules.proofs.Growth.{cut-always, as-whole}
 use Rattle.sparse_stream_rules.proofs.Passes.{all-due}
 use Rattle.sparse_stream_rules.proofs.EachCall.{each-call, each-answer}
@@ -58,3 +62,12 @@ each-stores len room cs small = each-call len room cs small
 
 pub each-answers : EachAnswers
 each-answers len room qs small = each-answer len room qs small
+
+pub refusal-numbers : RefusalNumbers
+unfolding answerNow
+refusal-numbers x = by (ltb 0 (x .refusal .number)) refl
+  where
+    by : (t : Bool) → ltb 0 (x .refusal .number) ≡ t
+        → HasNumber (cond t (refused (x .refusal .number) (x .refusal .place)) (counts (x .walk .written) (x .walk .next .first - x .walk .written)))
+    by true e = ltb-true 0 (x .refusal .number) e
+    by false e = tt

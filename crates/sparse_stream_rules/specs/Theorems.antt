@@ -4,13 +4,15 @@ use mathlib.Core.Path.{_≡_}
 use mathlib.Core.List.{List, [], _∷_, _++_, flatten}
 use Prim.Native.Nat.{ℕ, _≤_}
 use lib.ListN.{length}
-use Rattle.rules.specs.Answer.{Answer, accepted}
+use Rattle.rules.specs.Answer.{Answer, accepted, HasNumber}
 use Rattle.fields_rules.specs.Number.{Bytes}
 use Rattle.sparse_rules.specs.declared.Chunk.{Chunk}
 use Rattle.sparse_rules.specs.Judge.{judged}
 use Rattle.sparse_rules.specs.Answers.{Counts, answer}
 use Rattle.sparse_store_rules.specs.Store.{store}
 use Rattle.sparse_store_rules.specs.Runs.{run, answers, Cut, Disturbed, Restored}
+use Rattle.sparse_stream_rules.specs.declared.Pass.{Pass}
+use Rattle.sparse_stream_rules.specs.States.{answerNow}
 use Rattle.sparse_stream_rules.specs.Passes.{storeAfter, storeAnswer, Same, Due, EachStored, AllBytes, Asked, EachAnswer, AskedBytes}
 
 -- "Where the pieces together are exactly the announced length and no call gets 14, 15 or 16, the judging pass's verdict,
@@ -85,3 +87,7 @@ EachStores = (len room : ℕ) (cs : List (List ℕ × List ℕ)) → AllBytes cs
 -- refusal already given is given again to every later call, before any test": after any calls qs whatever, in any order
 abbrev pub EachAnswers : Type 0
 EachAnswers = (len room : ℕ) (qs : List Asked) → AskedBytes qs → EachAnswer len room qs
+
+-- no refusal of a pass that is finished has the number 0, which is returned where nothing is refused
+abbrev pub RefusalNumbers : Type 0
+RefusalNumbers = (x : Pass) → HasNumber (answerNow x)

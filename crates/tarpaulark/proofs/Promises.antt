@@ -4,6 +4,7 @@ use Rattle.slot_rules.proofs.Promises as slots
 use Rattle.boot_rules.proofs.Answers as boot
 use Rattle.sparse_rules.proofs.Theorems as images
 use Rattle.sparse_store_rules.proofs.Storing as storing
+use Rattle.sparse_stream_rules.proofs.Theorems as passes
 use Rattle.sparse_write_rules.proofs.Theorems as writer
 use Rattle.tarpaulark.specs.Promises.{Promises}
 
@@ -12,6 +13,7 @@ promises =
     record {
       images = images.refusal-numbers;
       storing = storing.storing;
+      passes = passes.refusal-numbers;
       writer = writer.refusal-numbers;
       boot = boot.refusal-numbers;
       slots = slots.refusal-numbers;

@@ -4,12 +4,14 @@ use Rattle.slot_rules.specs.Promises as slots
 use Rattle.boot_rules.specs.Tests as boot
 use Rattle.sparse_rules.specs.Theorems as images
 use Rattle.sparse_store_rules.specs.Storing as storing
+use Rattle.sparse_stream_rules.specs.Theorems as passes
 use Rattle.sparse_write_rules.specs.Theorems as writer
 
 -- no refusal of any part has the number 0, which is returned where nothing is refused
 pub record Promises : Type 0 where
   pub images : images.RefusalNumbers
   pub storing : storing.Storing
+  pub passes : passes.RefusalNumbers
   pub writer : writer.RefusalNumbers
   pub boot : boot.RefusalNumbers
   pub slots : slots.RefusalNumbers
