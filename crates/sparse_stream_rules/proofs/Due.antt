@@ -19,10 +19,29 @@ use Rattle.sparse_stream_rules.specs.Known.{dueBy, dueFrom}
 use Rattle.sparse_rules.proofs.Longer.{raw-append, cells-same}
 use Rattle.sparse_rules.proofs.Facts.{data-one}
 
+-- so many cells as so many others
+cells-many : (s : List ℕ) (at : ℕ) {m n : ℕ} → m ≡ n → cellsBy s Raw at m ≡ cellsBy s Raw at n
+cells-many s at e = ap (cellsBy s Raw at) e
+
+-- and none
+cells-none : (s : List ℕ) (at : ℕ) → cellsBy s Raw at 0 ≡ []
+unfolding cellsBy
+cells-none s at = refl
+
+-- nothing is due of raw data and of a fill chunk before theirs
+pub raw-early : (s : List ℕ) (at n : ℕ) → length s ≤ at → dueBy s Raw at n ≡ []
+unfolding dueBy
+raw-early s at n h = let e : dueBy s Raw at n ≡ cellsBy s Raw at 0 = cells-many s at (omega arith) in e ∙ cells-none s at
+
+-- nor is any of a fill chunk before its word is whole
+pub fill-early : (s : List ℕ) (at n : ℕ) → length s < at + 4 → dueBy s Fill at n ≡ []
+unfolding dueBy
+fill-early s at n h = rw (lt-leb (at + 4) (length s) h)
+
 -- all is due once the data have come
 pub due-all : (s : List ℕ) (k : Kind) (at n : ℕ) → at + dataBytes k 1 n ≤ length s → dueBy s k at n ≡ cellsBy s k at n
 unfolding dueBy
-due-all s Raw at n h = let e : min n (length s - at) ≡ n = omega arith in rw e
+due-all s Raw at n h = cells-many s at (omega arith)
 due-all s Fill at n h = rw (le-leb (at + 4) (length s) h)
 due-all s DontCare at n h = refl
 due-all s Unknown at n h = refl
@@ -33,16 +52,6 @@ due-stays s t k at n h =
     due-all (s ++ t) k at n (simp length-append (omega arith))
     ∙ cells-same (s ++ t) s k at n (λ i l. List·getD-append s t 0 (at + i) (omega arith))
     ∙ sym (due-all s k at n h)
-
--- nothing is due of raw data and of a fill chunk before theirs
-pub raw-early : (s : List ℕ) (at n : ℕ) → length s ≤ at → dueBy s Raw at n ≡ []
-unfolding dueBy cellsBy
-raw-early s at n h = let e : min n (length s - at) ≡ 0 = omega arith in rw e
-
--- nor is any of a fill chunk before its word is whole
-pub fill-early : (s : List ℕ) (at n : ℕ) → length s < at + 4 → dueBy s Fill at n ≡ []
-unfolding dueBy
-fill-early s at n h = rw (lt-leb (at + 4) (length s) h)
 
 -- a byte of raw data
 pub raw-grows : (s : List ℕ) (b at n : ℕ) → at ≤ length s → length s < at + n

@@ -17,7 +17,7 @@ use Rattle.sparse_store_rules.specs.Store.{over, laid}
 use Rattle.sparse_store_rules.proofs.Over.{length-over, over-then, laid-kept}
 use Rattle.sparse_stream_rules.specs.declared.Pass.{Pass}
 use Rattle.sparse_stream_rules.specs.Known.{Known, stopped, waiting, whole, known, passed, dueFrom, due, testedNumber}
-use Rattle.sparse_stream_rules.specs.Calls.{Past, going, given, taken, afterKnown, lentTest, overTest, shortTest, bring, judgeFinish, storeBring, storeFinish, finished, lays}
+use Rattle.sparse_stream_rules.specs.Calls.{Past, going, given, taken, afterKnown, lentTest, overTest, shortTest, bring, judgeFinish, storeBring, storeFinish, finished, lays, unlessGiven}
 use Rattle.sparse_stream_rules.specs.State.{stopOr}
 use Rattle.sparse_stream_rules.specs.Steps.{opened, fed}
 use Rattle.sparse_stream_rules.specs.Laid.{stores}
@@ -280,11 +280,28 @@ module _ (len room : ℕ) where
     after : Stood y w
     left : q ≡ lays len room v w p
 
-  free-call : (x : Pass) (s c p : List ℕ) → Free x s → Bytes (s ++ c) → (m : ℕ)
-      → first (lentTest room (length p) ∷ overTest len s c ∷ []) ≡ m
+  -- one that 16 or 14 refuses
+  call-refused : (x : Pass) (s c p : List ℕ) → Free x s → (m : ℕ) → first (lentTest room (length p) ∷ overTest len s c ∷ []) ≡ suc m
       → Call x (storeCall x (length p) c) (going s) (storeBring len room (length p) (going s) c) p (storeLeaves x c p)
   unfolding bring
-  free-call x s c p f small zero e =
+  call-refused x s c p f m e =
+      let t : first (lentTests x (length p) (length c)) ≡ suc m = tests-same x s c (length p) f ∙ e in
+      let z : x .refusal .number ≤ 0 = omega (arith, f .number) in
+      let a : stopOr (suc m) 0 x x ≡ storeCall x (length p) c =
+      called-refused (lentTests x (length p) (length c)) x z (stopOr (suc m) 0 x x) (fed (opened x) c) m t refl in
+      let b : p ≡ storeLeaves x c p = leaves-refused (lentTests x (length p) (length c)) x z p (stores (opened x) c p) m t in
+      let w : storeBring len room (length p) (going s) c ≡ given s (suc m) 0 =
+      ap (λ (k : ℕ). unlessGiven k s (afterKnown (s ++ c) (known (s ++ c) len room))) e in
+      record {
+        after = rw (← a, w) (stood (omega arith) refl refl);
+        left = sym b ∙ stays-put (going s) (storeBring len room (length p) (going s) c) p (ap taken w);
+      }
+
+  -- one that neither does
+  call-taken : (x : Pass) (s c p : List ℕ) → Free x s → Bytes (s ++ c) → first (lentTest room (length p) ∷ overTest len s c ∷ []) ≡ 0
+      → Call x (storeCall x (length p) c) (going s) (storeBring len room (length p) (going s) c) p (storeLeaves x c p)
+  unfolding bring
+  call-taken x s c p f small e =
       let t : first (lentTests x (length p) (length c)) ≡ 0 = tests-same x s c (length p) f ∙ e in
       let o = tests-none s c (length p) e in
       let z : x .refusal .number ≤ 0 = omega (arith, f .number) in
@@ -301,17 +318,12 @@ module _ (len room : ℕ) where
             ∙ lays-by s (s ++ c) p (storeBring len room (length p) (going s) c)
             (ap taken w ∙ taken-known (s ++ c) (known (s ++ c) len room));
       }
-  free-call x s c p f small (suc m) e =
-      let t : first (lentTests x (length p) (length c)) ≡ suc m = tests-same x s c (length p) f ∙ e in
-      let z : x .refusal .number ≤ 0 = omega (arith, f .number) in
-      let a : stopOr (suc m) 0 x x ≡ storeCall x (length p) c =
-      called-refused (lentTests x (length p) (length c)) x z (stopOr (suc m) 0 x x) (fed (opened x) c) m t refl in
-      let b : p ≡ storeLeaves x c p = leaves-refused (lentTests x (length p) (length c)) x z p (stores (opened x) c p) m t in
-      let w : storeBring len room (length p) (going s) c ≡ given s (suc m) 0 = rw e in
-      record {
-        after = rw (← a, w) (stood (omega arith) refl refl);
-        left = sym b ∙ stays-put (going s) (storeBring len room (length p) (going s) c) p (ap taken w);
-      }
+
+  free-call : (x : Pass) (s c p : List ℕ) → Free x s → Bytes (s ++ c) → (m : ℕ)
+      → first (lentTest room (length p) ∷ overTest len s c ∷ []) ≡ m
+      → Call x (storeCall x (length p) c) (going s) (storeBring len room (length p) (going s) c) p (storeLeaves x c p)
+  free-call x s c p f small zero e = call-taken x s c p f small e
+  free-call x s c p f small (suc m) e = call-refused x s c p f m e
 
   given-call : (x : Pass) (s c p : List ℕ) (n place : ℕ) → 0 < x .refusal .number → x .refusal .number ≡ n → x .refusal .place ≡ place
       → Call x (storeCall x (length p) c) (given s n place) (storeBring len room (length p) (given s n place) c) p (storeLeaves x c p)

@@ -18,7 +18,7 @@ use Rattle.sparse_rules.specs.Chunks.{sizeRight}
 use Rattle.sparse_stream_rules.specs.declared.Pass.{Pass}
 use Rattle.sparse_stream_rules.specs.Known.{passes, refuses, testedNumber}
 use Rattle.sparse_stream_rules.specs.State.{headOf, kindNow, blocksNow, sizeNow, stopOr}
-use Rattle.sparse_stream_rules.specs.Steps.{arrival, arrived, settled, headerNumber, chunkNumber}
+use Rattle.sparse_stream_rules.specs.Steps.{arrival, arrived, arriveIf, settled, headerNumber, chunkNumber}
 
 -- refusals 1 to 6, as far as their bytes have come
 module _ (s : List ℕ) (came len room : ℕ) where
@@ -205,7 +205,10 @@ chunk-fits x e =
 -- the bytes have come up to there
 pub settled-there : (x : Pass) → x .come .bytes ≡ x .walk .next .at → settled x ≡ arrived x
 unfolding settled
-settled-there x e = rw (eq-eqb _ _ e)
+settled-there x e = so _ (eq-eqb _ _ e)
+  where
+    so : (t : Bool) → t ≡ true → arriveIf t x ≡ arrived x
+    so t q = rw q
 
 -- they have not
 pub settled-before : (x : Pass) → (x .come .bytes ≡ x .walk .next .at → ⊥) → settled x ≡ x

@@ -146,6 +146,12 @@ header-agree c s came len room g = (
     f at w p q = number-same c s at at w (λ i l. g (at + i) (omega arith) (omega arith))
 
 module _ (s : List ℕ) (len : ℕ) (h : Header) where
+  -- 7 where a chunk begins
+  pub from-short : (n : ℕ) (c : Cursor) → 0 < n → c .at ≤ length s → len < c .at + h .head → knownFrom s len h n c ≡ stopped [] 7 (c .at)
+  unfolding knownFrom chunkTests
+  from-short zero c p q t = absurd (omega arith)
+  from-short (suc n) c p q t = rw (le-ltb (length s) (c .at) q, lt-ltb len (c .at + h .head) t)
+
   -- nothing is known of a chunk before its first byte
   pub from-early : (n : ℕ) (c : Cursor) → length s < c .at → knownFrom s len h n c ≡ waiting []
   unfolding knownFrom chunkTests endTests
@@ -158,12 +164,6 @@ module _ (s : List ℕ) (len : ℕ) (h : Header) where
   unfolding knownFrom chunkTests
   from-header zero c p q r t = absurd (omega arith)
   from-header (suc n) c p q r t = rw (le-ltb (length s) (c .at) q, le-ltb len (c .at + h .head) t, lt-ltb (length s) (c .at + 12) r)
-
-  -- 7 where a chunk begins
-  pub from-short : (n : ℕ) (c : Cursor) → 0 < n → c .at ≤ length s → len < c .at + h .head → knownFrom s len h n c ≡ stopped [] 7 (c .at)
-  unfolding knownFrom chunkTests
-  from-short zero c p q t = absurd (omega arith)
-  from-short (suc n) c p q t = rw (le-ltb (length s) (c .at) q, lt-ltb len (c .at + h .head) t)
 
   -- the known fields of a chunk's header have come
   pub from-chunk : (n : ℕ) (c : Cursor) → c .at + 12 ≤ length s
