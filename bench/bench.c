@@ -1,7 +1,8 @@
 /*
  * bench MIB FOLDER: times judge, store and write on data of MIB MiB against memcpy,
  * zlib's crc32 (with -DWITH_ZLIB), simg2img and img2simg, and prints a table of ratios;
- * then a table of the passes against judge and store. The tools run on files in FOLDER.
+ * then a table of the passes against judge and store. Images are judged and stored with
+ * a checksum stated and with none. The tools run on files in FOLDER.
  */
 #define _GNU_SOURCE
 #include "passes.h"
@@ -108,10 +109,12 @@ struct yardsticks {
     double copy, checksum, tool;
 };
 
-static void put_row(const struct data *data, const char *name, size_t bytes, double whole, double quarter,
-                    struct yardsticks than)
+static void put_row(const struct data *data, const char *job, const struct work *work, double whole,
+                    double quarter, struct yardsticks than)
 {
-    printf("%-17s  %-5s %9.4f %7.2f", data->name, name, whole, (double)bytes / 1e9 / whole);
+    put_names(data, job, work);
+    printf(" %9.4f", whole);
+    put_ratio((double)work->flat_len / 1e9, whole);
     put_ratio(whole, than.copy);
     put_ratio(whole, than.checksum);
     put_ratio(whole, than.tool);
@@ -127,13 +130,13 @@ static void put_rows(const struct data *data, struct work *work, size_t mib)
 
     put_file(work->image_path, work->image, work->image_len);
     than.tool = best(simg2img, work);
-    put_row(data, "judge", work->flat_len, whole.judge, quarter.judge, than);
-    put_row(data, "store", work->flat_len, whole.store, quarter.store, than);
-    if (data->skips)
+    put_row(data, "judge", work, whole.judge, quarter.judge, than);
+    put_row(data, "store", work, whole.store, quarter.store, than);
+    if (data->skips || work->unstated)
         return;
     put_file(work->flat_path, work->flat, work->flat_len);
     than.tool = best(img2simg, work);
-    put_row(data, "write", work->flat_len, whole.write, quarter.write, than);
+    put_row(data, "write", work, whole.write, quarter.write, than);
 }
 
 static uint8_t *touched(size_t length)
@@ -158,10 +161,14 @@ int main(int count, char **words)
     work.flat = touched(mib << 20);
     work.partition = touched(mib << 20);
     work.image = touched(work.image_room);
-    printf("%-17s  %-5s %9s %7s %9s %9s %9s %9s\n", "data", "job", "seconds", "GB/s", "/ memcpy", "/ crc32",
-           "/ tool", "growth");
-    for (size_t i = 0; i < KINDS; i++)
+    printf("%-17s  %-5s  %-8s %9s %9s %9s %9s %9s %9s\n", "data", "job", "checksum", "seconds", "GB/s", "/ memcpy",
+           "/ crc32", "/ tool", "growth");
+    for (size_t i = 0; i < KINDS; i++) {
+        work.unstated = 0;
         put_rows(&kinds[i], &work, mib);
+        work.unstated = 1;
+        put_rows(&kinds[i], &work, mib);
+    }
     putchar('\n');
     put_passes(&work, mib);
     return 0;

@@ -61,10 +61,12 @@ static struct times time_passes(const struct data *data, struct work *work, size
     return times;
 }
 
-static void put_row(const char *data, const char *job, size_t piece, size_t bytes, double seconds, double quarter,
-                    double whole)
+static void put_row(const struct data *data, const char *job, const struct work *work, size_t piece,
+                    double seconds, double quarter, double whole)
 {
-    printf("%-17s  %-5s %6zu %9.4f %7.2f", data, job, piece, seconds, (double)bytes / 1e9 / seconds);
+    put_names(data, job, work);
+    printf(" %6zu %9.4f", piece, seconds);
+    put_ratio((double)work->flat_len / 1e9, seconds);
     put_ratio(whole, seconds);
     put_ratio(seconds, quarter);
     putchar('\n');
@@ -76,17 +78,23 @@ static void put_rows(const struct data *data, struct work *work, size_t mib)
     struct times quarter = time_passes(data, work, mib / 4), whole = time_passes(data, work, mib);
 
     for (size_t i = 0; i < PIECES; i++)
-        put_row(data->name, "judge", pieces[i], work->flat_len, whole.judging[i], quarter.judging[i], whole.judge);
+        put_row(data, "judge", work, pieces[i], whole.judging[i], quarter.judging[i], whole.judge);
     for (size_t i = 0; i < PIECES; i++)
-        put_row(data->name, "store", pieces[i], work->flat_len, whole.storing[i], quarter.storing[i], whole.store);
+        put_row(data, "store", work, pieces[i], whole.storing[i], quarter.storing[i], whole.store);
     for (size_t i = 0; i < PIECES; i++)
-        put_row(data->name, "both", pieces[i], work->flat_len, whole.judging[i] + whole.storing[i],
+        put_row(data, "both", work, pieces[i], whole.judging[i] + whole.storing[i],
                 quarter.judging[i] + quarter.storing[i], whole.store);
 }
 
 void put_passes(struct work *work, size_t mib)
 {
-    printf("%-17s  %-5s %6s %9s %7s %9s %9s\n", "data", "pass", "piece", "seconds", "GB/s", "of whole", "growth");
-    for (size_t i = 0; i < KINDS; i++)
+    printf("%-17s  %-5s  %-8s %6s %9s %9s %9s %9s\n", "data", "pass", "checksum", "piece", "seconds", "GB/s",
+           "of whole", "growth");
+    for (size_t i = 0; i < KINDS; i++) {
+        work->unstated = 0;
         put_rows(&kinds[i], work, mib);
+        work->unstated = 1;
+        if (i == RANDOM || i == SMALL_CHUNKS)
+            put_rows(&kinds[i], work, mib);
+    }
 }

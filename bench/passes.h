@@ -1,4 +1,7 @@
-/* The passes on pieces of some lengths, against the whole form on the same images. */
+/*
+ * The passes on pieces of some lengths, against the whole form on the same images:
+ * with a checksum stated on all kinds of data, with none where the checksum costs most.
+ */
 #ifndef PASSES_H
 #define PASSES_H
 

@@ -7,11 +7,14 @@
 
 #define RUNS 3
 
+/* Of a shorter time too much is the clock's own. */
+#define SHORTEST 20e-6
+
 const struct data kinds[KINDS] = {
-    {"random", 4096, 1, 1, 0, 0},
-    {"mostly fill", 4096, 16, 256, 0xA5, 0},
-    {"mostly don't care", 4096, 16, 256, 0, 1},
-    {"small chunks", 256, 1, 2, 0xA5, 0},
+    [RANDOM] = {"random", 4096, 1, 1, 0, 0},
+    [MOSTLY_FILL] = {"mostly fill", 4096, 16, 256, 0xA5, 0},
+    [MOSTLY_DONT_CARE] = {"mostly don't care", 4096, 16, 256, 0, 1},
+    [SMALL_CHUNKS] = {"small chunks", 256, 1, 2, 0xA5, 0},
 };
 
 void expect(int holds, const char *what)
@@ -128,6 +131,8 @@ double make_image(const struct data *data, struct work *work, size_t mib)
     seconds = best(write_image, work);
     if (data->skips)
         skip_zeros(work);
+    if (work->unstated)
+        memset(work->image + 24, 0, 4);
     return seconds;
 }
 
@@ -141,10 +146,15 @@ void expect_stored(const struct work *work)
     expect(memcmp(work->flat, work->partition, work->flat_len) == 0, "the stored bytes are wrong");
 }
 
-void put_ratio(double time, double other)
+void put_names(const struct data *data, const char *job, const struct work *work)
 {
-    if (other > 0)
-        printf(" %9.2f", time / other);
+    printf("%-17s  %-5s  %-8s", data->name, job, work->unstated ? "none" : "stated");
+}
+
+void put_ratio(double number, double time)
+{
+    if (time >= SHORTEST)
+        printf(" %9.2f", number / time);
     else
         printf(" %9s", "-");
 }

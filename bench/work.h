@@ -12,6 +12,7 @@ struct work {
     uint8_t *flat, *image, *partition;
     size_t flat_len, image_len, image_room, piece;
     uint32_t block;
+    int unstated; /* the image states no checksum */
     char flat_path[PATH_MAX], image_path[PATH_MAX], out_path[PATH_MAX];
 };
 
@@ -23,7 +24,7 @@ struct data {
     int skips;
 };
 
-#define KINDS 4
+enum { RANDOM, MOSTLY_FILL, MOSTLY_DONT_CARE, SMALL_CHUNKS, KINDS };
 extern const struct data kinds[KINDS];
 
 /* Processor seconds of one run, or ABSENT. */
@@ -47,7 +48,10 @@ void expect_stored(const struct work *work);
 double judge(struct work *work);
 double store(struct work *work);
 
-/* A column: one time over another. */
-void put_ratio(double time, double other);
+/* The columns that name the image and the job. */
+void put_names(const struct data *data, const char *job, const struct work *work);
+
+/* A column: a number over a time, which must be long enough to be told. */
+void put_ratio(double number, double time);
 
 #endif

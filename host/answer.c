@@ -145,10 +145,24 @@ void say_name_column(const char *name, int width, const char *text)
         printf("%-*s", width, text);
 }
 
-void say_hex(const char *name, uint32_t value, bool named)
+static void put_hex(uint32_t value)
 {
-    begin_member(name, named);
     printf(answer.json ? "%" PRIu32 : "0x%08" PRIx32, value);
+}
+
+void say_hex(const char *name, uint32_t value)
+{
+    begin_member(name, false);
+    put_hex(value);
+}
+
+void say_hex_or_none(const char *name, uint32_t value)
+{
+    begin_member(name, true);
+    if (value == 0 && !answer.json)
+        fputs("none", stdout);
+    else
+        put_hex(value);
 }
 
 void say_line(const char *line)
@@ -248,13 +262,15 @@ enum status finish_text(void)
 
 void advise(const char *name, const char *words)
 {
-    if (answer.json)
+    if (answer.json) {
         say_text(name, words);
-    else
-        fprintf(stderr, "%s\n", words);
+        return;
+    }
+    fflush(stdout);
+    fprintf(stderr, "%s\n", words);
 }
 
-enum status refuse(uint32_t number, uint64_t place, const char *more)
+enum status refuse(uint32_t number, uint64_t place)
 {
     if (answer.json) {
         say_number("number", number);
@@ -263,8 +279,6 @@ enum status refuse(uint32_t number, uint64_t place, const char *more)
         fprintf(stderr, "refused %" PRIu32 " at %" PRIu64 "\n", number, place);
     }
     advise("meaning", refusal_meaning(number));
-    if (more != NULL)
-        advise("more", more);
     return REFUSED;
 }
 

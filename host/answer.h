@@ -28,8 +28,9 @@ void say_flag(const char *name, bool set);
 void say_column(const char *name, int width, uint64_t value);
 void say_name_column(const char *name, int width, const char *text);
 
-/* A number that text shows as 0x and eight digits. */
-void say_hex(const char *name, uint32_t value, bool named);
+/* Numbers that text shows as 0x and eight digits: a plain one, and one with its name, none where it is 0. */
+void say_hex(const char *name, uint32_t value);
+void say_hex_or_none(const char *name, uint32_t value);
 
 /* A line of text that the object does not have, and a member that text does not have. */
 void say_line(const char *line);
@@ -48,10 +49,10 @@ enum status finish(enum status status);
 /* Ends what is no answer, as the help; the status to leave with. */
 enum status finish_text(void);
 
-/* Says a refusal, its place and what it means; more words may follow the meaning. */
-enum status refuse(uint32_t number, uint64_t place, const char *more);
+/* Says a refusal, its place and what it means. */
+enum status refuse(uint32_t number, uint64_t place);
 
-/* More words to a refusal, a line of their own on standard error. */
+/* More words to an answer or a refusal, a line of their own on standard error. */
 void advise(const char *name, const char *words);
 
 /* Say what went wrong with a file, or with the words where `path` is null, and end the program.

@@ -1,5 +1,7 @@
 #include "chunks.h"
 
+#include "answer.h"
+
 static const char changed[] = "changed while it was read; run the same command again";
 
 uint32_t begin_walk(
@@ -46,19 +48,8 @@ void expect_read(const struct mapped *image)
     expect_unchanged(image, changed);
 }
 
-const char *about_refusal(uint32_t number, uint64_t checksum)
+void say_unchecked(uint64_t checksum)
 {
-    if (number != TARPAULARK_BAD_CHECKSUM || checksum != 0)
-        return NULL;
-    return "the header states 0, and a checksum of 0 is taken as stated: a tool that works out none (img2simg)"
-           " makes such an image";
-}
-
-enum status refuse_image(const struct mapped *image, uint32_t number, uint64_t place)
-{
-    uint64_t header[TARPAULARK_HEADER_ANSWER];
-
-    if (tarpaulark_header(image->at, image->length, UINT64_MAX, header) != 0)
-        return refuse(number, place, NULL);
-    return refuse(number, place, about_refusal(number, header[TARPAULARK_HEADER_CHECKSUM]));
+    if (checksum == 0)
+        advise("unchecked", "no checksum is stated: the data were not checked");
 }

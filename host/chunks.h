@@ -2,7 +2,6 @@
 #ifndef CHUNKS_H
 #define CHUNKS_H
 
-#include "answer.h"
 #include "files.h"
 #include "tarpaulark.h"
 
@@ -41,10 +40,7 @@ uint32_t word_at(const uint8_t *at);
 /* Fails where the image was changed while it was read. */
 void expect_read(const struct mapped *image);
 
-/* What a crew should know about a refusal, where the header states such a checksum; null where that is nothing. */
-const char *about_refusal(uint32_t number, uint64_t checksum);
-
-/* Says the refusal of an image, with what a crew should know about it. */
-enum status refuse_image(const struct mapped *image, uint32_t number, uint64_t place);
+/* Says of an accepted image that its data were not checked, where its checksum is 0: none is stated. */
+void say_unchecked(uint64_t checksum);
 
 #endif

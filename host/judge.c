@@ -3,12 +3,13 @@
 #include "commands.h"
 #include "passes.h"
 
-static enum status say_accepted(const uint64_t *answer)
+static enum status say_accepted(const uint64_t *answer, uint64_t checksum)
 {
     say_word("ok");
     say_number("written", answer[TARPAULARK_WRITTEN]);
     say_number("skipped", answer[TARPAULARK_SKIPPED]);
     end_line();
+    say_unchecked(checksum);
     return DONE;
 }
 
@@ -16,10 +17,13 @@ static enum status judge_file(const char *path, uint64_t room)
 {
     uint64_t answer[TARPAULARK_JUDGE_ANSWER];
     struct mapped image = read_image(path);
-    uint32_t number = tarpaulark_judge(image.at, image.length, room, answer);
+    struct walk walk;
+    uint32_t number = begin_walk(&walk, &image, room, answer);
 
     expect_read(&image);
-    return number != 0 ? refuse_image(&image, number, answer[TARPAULARK_PLACE]) : say_accepted(answer);
+    if (number != 0)
+        return refuse(number, answer[TARPAULARK_PLACE]);
+    return say_accepted(answer, walk.header[TARPAULARK_HEADER_CHECKSUM]);
 }
 
 static enum status judge_input(uint64_t length, uint64_t room)
@@ -30,7 +34,9 @@ static enum status judge_input(uint64_t length, uint64_t room)
 
     if (source.start >= 0)
         expect_read(&source.file);
-    return number != 0 ? refuse_pass(&pass, number) : say_accepted(pass.answer);
+    if (number != 0)
+        return refuse(number, pass.answer[TARPAULARK_PLACE]);
+    return say_accepted(pass.answer, stated_checksum(&pass));
 }
 
 enum status judge(const struct request *request)

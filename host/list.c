@@ -15,7 +15,7 @@ static void say_chunk(const struct mapped *image, const struct chunk *chunk, uin
     say_column("from", 15, chunk->first * block);
     say_column("before", 15, (chunk->first + (uint64_t)chunk->blocks) * block);
     if (chunk->kind == TARPAULARK_FILL)
-        say_hex("word", word_at(image->at + chunk->data), false);
+        say_hex("word", word_at(image->at + chunk->data));
     close_item();
 }
 
@@ -24,7 +24,7 @@ static void say_header(const uint64_t *header)
     say_number("block", header[TARPAULARK_HEADER_BLOCK]);
     say_number("total", header[TARPAULARK_HEADER_TOTAL]);
     say_number("chunks", header[TARPAULARK_HEADER_CHUNKS]);
-    say_hex("checksum", (uint32_t)header[TARPAULARK_HEADER_CHECKSUM], true);
+    say_hex_or_none("checksum", (uint32_t)header[TARPAULARK_HEADER_CHECKSUM]);
     end_line();
 }
 
@@ -52,7 +52,7 @@ enum status list(const struct request *request)
 
     expect_read(&image);
     if (number != 0)
-        return refuse_image(&image, number, answer[TARPAULARK_PLACE]);
+        return refuse(number, answer[TARPAULARK_PLACE]);
     say_header(walk.header);
     say_line("first block kind        blocks       from byte     before byte fill word");
     open_list("list");
@@ -63,5 +63,6 @@ enum status list(const struct request *request)
     close_list();
     expect_read(&image);
     say_totals(totals, answer);
+    say_unchecked(walk.header[TARPAULARK_HEADER_CHECKSUM]);
     return DONE;
 }

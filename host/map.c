@@ -105,7 +105,7 @@ enum status map(const struct request *request)
     number = begin_walk(&walk, &image, UINT64_MAX, answer);
     expect_read(&image);
     if (number != 0)
-        return refuse_image(&image, number, answer[TARPAULARK_PLACE]);
+        return refuse(number, answer[TARPAULARK_PLACE]);
     draw(&picture, &walk);
     expect_read(&image);
     if (request->svg != NULL)

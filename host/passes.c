@@ -1,5 +1,6 @@
 #include "passes.h"
 
+#include "answer.h"
 #include "chunks.h"
 #include "progress.h"
 
@@ -104,8 +105,7 @@ uint32_t store_pieces(const struct source *source, const struct mapped *partitio
     return run_pass(source, pass, partition);
 }
 
-enum status refuse_pass(const struct pass *pass, uint32_t number)
+uint32_t stated_checksum(const struct pass *pass)
 {
-    return refuse(number, pass->answer[TARPAULARK_PLACE],
-                  about_refusal(number, word_at(pass->state + CHECKSUM_AT)));
+    return word_at(pass->state + CHECKSUM_AT);
 }

@@ -2,7 +2,6 @@
 #ifndef PASSES_H
 #define PASSES_H
 
-#include "answer.h"
 #include "commands.h"
 #include "files.h"
 #include "tarpaulark.h"
@@ -38,7 +37,7 @@ uint32_t judge_pieces(const struct source *source, uint64_t room, struct pass *p
 /* Reads an image and stores it on a partition as it comes; 0 or the refusal, before which some may be stored. */
 uint32_t store_pieces(const struct source *source, const struct mapped *partition, struct pass *pass);
 
-/* Says the refusal of a pass. */
-enum status refuse_pass(const struct pass *pass, uint32_t number);
+/* The checksum that the header of an accepted image states; 0 where none is. */
+uint32_t stated_checksum(const struct pass *pass);
 
 #endif

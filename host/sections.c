@@ -11,7 +11,7 @@ enum status sections(const struct request *request)
 
     expect_read(&image);
     if (number != 0)
-        return refuse(number, 0, NULL);
+        return refuse(number, 0);
     say_number("version", answer[TARPAULARK_VERSION_AT]);
     end_line();
     open_list("sections");

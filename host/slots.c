@@ -19,7 +19,7 @@ static enum status keep_record(
     int error;
 
     if (number != 0)
-        return refuse(number, 0, NULL);
+        return refuse(number, 0);
     error = put_bytes(place, record, TARPAULARK_RECORD);
     say_plain("answer", starts ? "starts" : recovers ? "recovery" : "ok");
     if (starts)
@@ -52,7 +52,7 @@ static enum status show(const char *path)
     if (!S_ISREG(file.before.st_mode))
         misused(path, "is no file; name one");
     if (read_record(path, file.file, record) != TARPAULARK_RECORD || tarpaulark_slots_valid(record) != 0)
-        return refuse(TARPAULARK_BAD_RECORD, 0, NULL);
+        return refuse(TARPAULARK_BAD_RECORD, 0);
     say_text("current", (const char[]){(char)('a' + record[16]), '\0'});
     end_line();
     open_list("slots");
@@ -93,7 +93,7 @@ static enum status change(const char *path, const char *operation, uint32_t slot
     if (place.held < 0)
         failed(path, missing, ENOENT);
     if (read_record(path, place.held, record) != TARPAULARK_RECORD)
-        return refuse(TARPAULARK_BAD_RECORD, 0, NULL);
+        return refuse(TARPAULARK_BAD_RECORD, 0);
     number = operate(operation, slot, record, answer);
     return keep_record(&place, number, record, answer);
 }

@@ -63,7 +63,7 @@ static void list_kept(struct walk *walk, uint64_t limit, uint64_t length)
     close_list();
 }
 
-static void say_stored(const struct request *request, const uint64_t *answer)
+static void say_stored(const struct request *request, const uint64_t *answer, uint64_t checksum)
 {
     say_word("ok");
     if (request->has_limit) {
@@ -73,6 +73,7 @@ static void say_stored(const struct request *request, const uint64_t *answer)
         say_number("skipped", answer[TARPAULARK_SKIPPED]);
     }
     end_line();
+    say_unchecked(checksum);
 }
 
 static enum status try_dry(
@@ -84,11 +85,11 @@ static enum status try_dry(
 
     expect_read(image);
     if (number != 0)
-        return refuse_image(image, number, answer[TARPAULARK_PLACE]);
+        return refuse(number, answer[TARPAULARK_PLACE]);
     limit = answer[TARPAULARK_WRITTEN];
     if (request->has_limit && request->limit < limit)
         limit = answer[TARPAULARK_STORED] = request->limit;
-    say_stored(request, answer);
+    say_stored(request, answer, walk.header[TARPAULARK_HEADER_CHECKSUM]);
     list_kept(&walk, limit, partition->length);
     expect_read(image);
     say_line("dry run: nothing is stored");
@@ -105,9 +106,10 @@ static void put_on_disk(const struct mapped *partition)
 static enum status store_now(
     const struct request *request, const struct mapped *image, const struct mapped *partition)
 {
-    uint64_t answer[TARPAULARK_STORE_ANSWER];
+    uint64_t answer[TARPAULARK_STORE_ANSWER], header[TARPAULARK_HEADER_ANSWER];
     uint32_t number;
 
+    tarpaulark_header(image->at, image->length, partition->length, header);
     if (request->has_limit)
         number = tarpaulark_store_limited(
             image->at, image->length, partition->at, partition->length, request->limit, answer);
@@ -118,16 +120,16 @@ static enum status store_now(
         put_on_disk(partition);
     expect_unchanged(image, changed);
     if (number != 0)
-        return refuse_image(image, number, answer[TARPAULARK_PLACE]);
+        return refuse(number, answer[TARPAULARK_PLACE]);
     expect_in_place(partition);
-    say_stored(request, answer);
+    say_stored(request, answer, header[TARPAULARK_HEADER_CHECKSUM]);
     return DONE;
 }
 
 /* Until the file header has passed its tests, nothing has come due. */
 static enum status refuse_late(const struct pass *pass, uint32_t number)
 {
-    enum status status = refuse_pass(pass, number);
+    enum status status = refuse(number, pass->answer[TARPAULARK_PLACE]);
 
     if (number > TARPAULARK_BAD_ROOM)
         advise("partition", "what had come due before is stored; send the right image from its start: stored in full,"
@@ -156,7 +158,7 @@ static enum status store_by_passes(
     uint32_t number = judge_first(source, partition, &pass);
 
     if (number != 0)
-        return refuse_pass(&pass, number);
+        return refuse(number, pass.answer[TARPAULARK_PLACE]);
     number = store_pieces(source, partition, &pass);
     begin_progress("putting it on the disk", 0);
     put_on_disk(partition);
@@ -168,7 +170,7 @@ static enum status store_by_passes(
     if (number != 0)
         return refuse_late(&pass, number);
     expect_in_place(partition);
-    say_stored(request, pass.answer);
+    say_stored(request, pass.answer, stated_checksum(&pass));
     return DONE;
 }
 

@@ -24,7 +24,7 @@ enum status write_image(const struct request *request)
     number = tarpaulark_write(flat.at, flat.length, (uint32_t)block, out.at, out.length, answer);
     expect_read(&flat);
     if (number != 0)
-        return refuse(number, answer[TARPAULARK_PLACE], NULL);
+        return refuse(number, answer[TARPAULARK_PLACE]);
     error = put_in_place(&place, &out, answer[TARPAULARK_LENGTH]);
     say_word("ok");
     say_number("bytes", answer[TARPAULARK_LENGTH]);

@@ -58,7 +58,7 @@
 #include <stdint.h>
 
 /* The version of the header, the library and the host tool; it stands only here. */
-#define TARPAULARK_VERSION "0.2.0"
+#define TARPAULARK_VERSION "0.3.0"
 
 /* Lengths of the answers, of a slot record, and of the state of a pass. */
 #define TARPAULARK_JUDGE_ANSWER 3
@@ -113,7 +113,7 @@ enum tarpaulark_refusal {
     TARPAULARK_BAD_TOTAL = 9,
     /* bytes remain after the last chunk */
     TARPAULARK_BAD_TAIL = 10,
-    /* checksum differs; a checksum of 0 is taken as stated */
+    /* the stated checksum differs; a header checksum of 0 states none */
     TARPAULARK_BAD_CHECKSUM = 11,
     /* output too short for the image to be written (after 5 and 13) */
     TARPAULARK_BAD_OUTPUT = 12,
@@ -164,7 +164,7 @@ enum {
     TARPAULARK_HEADER_BLOCK = 0,    /* block size in bytes */
     TARPAULARK_HEADER_TOTAL = 1,    /* total blocks */
     TARPAULARK_HEADER_CHUNKS = 2,   /* total chunks */
-    TARPAULARK_HEADER_CHECKSUM = 3, /* the checksum that is stated */
+    TARPAULARK_HEADER_CHECKSUM = 3, /* the checksum that is stated, 0 where none is */
     TARPAULARK_HEADER_START = 4,    /* file header size: where the first chunk begins */
     TARPAULARK_HEADER_HEAD = 5      /* chunk header size */
 };
@@ -221,7 +221,8 @@ extern "C" {
 /*
  * Judges a sparse image for a partition of partition_len bytes. Reads the image.
  * Refusals: 1 to 11. Skipped blocks count as zeros in the checksum, which depends
- * on the image alone.
+ * on the image alone. A header checksum of 0 states none, and none is worked out
+ * then: damage to what an image stores goes unnoticed, unless its structure breaks.
  * answer: place; blocks written (raw and fill); blocks skipped (all other). The
  * last two add up to the header's total.
  */
@@ -258,7 +259,8 @@ uint32_t tarpaulark_store_limited(
  * Writes the sparse image of flat bytes to the first bytes of out. Output bytes
  * past the image, and all of them after a refusal, keep what they held. A block
  * whose 4-byte words are all equal becomes fill, any other raw, in runs as long as
- * they can be; nothing is skipped.
+ * they can be; nothing is skipped. The header states the true checksum; where that
+ * is 0 it reads as none stated.
  * Refusals, in this order: 5, 13, 12.
  * answer: place, which is always 0; the image's length.
  */
@@ -269,9 +271,9 @@ uint32_t tarpaulark_write(
 /*
  * Reads the file header of a sparse image, for a partition of partition_len bytes.
  * Refusals: 1 to 6; it says nothing of the chunks or of the checksum.
- * answer: block size; total blocks; total chunks; the checksum that is stated;
- * file header size, which is the offset of the first chunk; chunk header size.
- * After a refusal all are 0.
+ * answer: block size; total blocks; total chunks; the checksum that is stated, 0
+ * where none is; file header size, which is the offset of the first chunk; chunk
+ * header size. After a refusal all are 0.
  */
 uint32_t tarpaulark_header(
     const uint8_t *image, size_t image_len, uint64_t partition_len,
@@ -330,7 +332,8 @@ uint32_t tarpaulark_chunk(
  *    at 16 (4)   the number of the refusal that was given, or 0
  *    at 20 (8)   its place
  *    at 28 (8)   how many bytes have come
- *    at 36 (4)   the checksum's state over the blocks that they give
+ *    at 36 (4)   the checksum's state over the blocks that they give; it stays all
+ *                ones where none is stated
  *    at 40 (8)   where the next chunk begins in the image
  *    at 48 (4)   its first block
  *    at 52 (4)   how many chunks are still to be read

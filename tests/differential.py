@@ -58,6 +58,7 @@ EDGES += tuple(2**k + d for k in (30, 31, 32) for d in (-4, -1, 0, 1) if 2**k + 
 ROOM = 2**64 - 1
 RECORD_LENGTH = 17
 STATE_LENGTH = 104
+COME_AT, SUM_AT, HEAD_AT = 28, 36, 60
 LARGEST_LENT = 40000
 REFUSED = 3
 CHUNK_KINDS = {sparse.TYPE_RAW: 0, sparse.TYPE_FILL: 1, sparse.TYPE_DONT_CARE: 2}
@@ -226,8 +227,7 @@ def with_its_checksum(image: bytes) -> bytes:
     chunks = sparse.walk(image, header)
     if isinstance(chunks, sparse.Refusal):
         return image
-    checksum = sparse.image_checksum(image, header, chunks)
-    return build.with_bytes(image, sparse.CHECKSUM_AT, checksum.to_bytes(4, "little"))
+    return build.stating(image, sparse.image_checksum(image, header, chunks))
 
 
 def wide_image(rng: random.Random) -> bytes:
@@ -245,18 +245,38 @@ def wide_image(rng: random.Random) -> bytes:
     return build.sparse_image(size, plans)
 
 
+def zero_sum_image(rng: random.Random) -> bytes:
+    """An image whose true checksum is 0 by a word of one of its chunks."""
+    size = pick(rng, (4, 8, 12))
+    plans = [cases_store.random_plan(rng, size) for _ in range(below(rng, 4))]
+    at, count, data = below(rng, len(plans) + 1), 1 + below(rng, 3), some_bytes(rng, size - 4)
+    is_raw = below(rng, 2) == 0
+
+    def plans_of(word: bytes) -> List[build.ChunkPlan]:
+        chunk = build.raw(word + data, size) if is_raw else build.fill(word, count)
+        return plans[:at] + [chunk] + plans[at:]
+    return cases_sparse.zero_sum_image(size, plans_of)
+
+
+def restated(rng: random.Random, image: bytes) -> bytes:
+    """The image as it is, or with no checksum stated, or 1, or one of a single byte."""
+    single_byte = 1 + below(rng, 255) << 8 * below(rng, 4)
+    checksum = pick(rng, (None,) * 8 + (0, 0, 1, single_byte))
+    return image if checksum is None else build.stating(image, checksum)
+
+
 def sparse_input(rng: random.Random, narrow: bool) -> bytes:
     """A sparse image, whole or damaged, or bytes that are none."""
-    makers = [cases_sparse.random_image, cases_store.random_image, cases_store.random_image]
-    image = pick(rng, makers if narrow else makers + [wide_image])(rng)
+    makers = [cases_sparse.random_image] * 2 + [cases_store.random_image] * 5 + [zero_sum_image]
+    image = pick(rng, makers if narrow else makers + [wide_image] * 2)(rng)
     kind = below(rng, 8)
     if kind == 0:
         return some_bytes(rng, below(rng, 90))
     if kind <= 2:
-        return damaged(rng, image, 28)
+        return damaged(rng, restated(rng, image), 28)
     if kind <= 4:
-        return with_its_checksum(damaged(rng, image, len(image)))
-    return image
+        image = with_its_checksum(damaged(rng, image, len(image)))
+    return restated(rng, image)
 
 
 def partition_length(rng: random.Random, image: bytes) -> int:
@@ -322,6 +342,9 @@ def write_call(rng: random.Random) -> Call:
     """`write`: place, which is 0, and the image's length."""
     size = pick(rng, (4, 8, 12, 16, 20, 64, 400))
     flat = cases_write.random_flat(rng, size)
+    if below(rng, 6) == 0:
+        words = pick(rng, (1, size // 4))
+        flat = cases_write.zero_sum_flat(flat, words, bytes(size - 4 * words))
     room = len(writer.image_of(flat, size)) + pick(rng, (-1 - below(rng, 40), 0, 0, 0, 30))
     flat = damaged(rng, flat, len(flat)) if below(rng, 4) == 0 else flat
     block_size = pick(rng, EDGES + (size,) * 60)
@@ -470,15 +493,32 @@ def begin_call(rng: random.Random, length: int, room: int) -> Tuple[Function, Ca
     return BEGIN, Call((length, room, some_bytes(rng, STATE_LENGTH)), None, None, (after,))
 
 
+def is_refused_in_piece(state: passes.State) -> bool:
+    """Whether a refusal of 01's was given, which may come before the end of a piece."""
+    return state.refusal is not None and state.refusal.number not in cases_passes.NEW_REFUSALS
+
+
+def is_sum_known(state: passes.State) -> bool:
+    """Whether the checksum's state is known: at all times where none is stated.  Elsewhere
+    it is open when the zeros of a skipped chunk go in."""
+    if not sparse.is_checksum_stated(state.header):
+        return True
+    in_skipped = state.waits_for == passes.CHUNK_END and state.chunk.kind == sparse.SKIP
+    return not in_skipped and not is_refused_in_piece(state)
+
+
 def state_fields(state: passes.State) -> Dict[int, bytes]:
     """What the header says of a state: the lengths told, the refusal and its place, the
-    file header as far as it came, and how many bytes came.  That is left open for a
-    refusal of 01's, which may come before the end of a piece."""
+    file header as far as it came, how many bytes came, and the checksum's state.  The
+    last two are left open for a refusal of 01's, save for the state where no checksum
+    is stated."""
     refusal = state.refusal or sparse.Refusal(0, 0)
     given = u32(refusal.number) + u64(refusal.place)
-    known = {0: u64(state.length) + u64(state.room) + given, 60: state.head}
-    if refusal.number == 0 or refusal.number in cases_passes.NEW_REFUSALS:
-        known[28] = u64(state.come)
+    known = {0: u64(state.length) + u64(state.room) + given, HEAD_AT: state.head}
+    if not is_refused_in_piece(state):
+        known[COME_AT] = u64(state.come)
+    if is_sum_known(state):
+        known[SUM_AT] = u32(state.checksum_state)
     return known
 
 
@@ -506,7 +546,7 @@ def pass_input(rng: random.Random) -> bytes:
     """An image, long ones among them, whole or damaged, or bytes that are none."""
     if below(rng, 8) != 0:
         return sparse_input(rng, below(rng, 4) != 0)
-    image = long_image(rng)
+    image = restated(rng, long_image(rng))
     return damaged(rng, image, 28) if below(rng, 4) == 0 else image
 
 
@@ -557,15 +597,28 @@ def forged(rng: random.Random, state: bytes, room: int) -> bytes:
         return state
     state = some_bytes(rng, STATE_LENGTH)
     come = rng.getrandbits(below(rng, 60))
-    for at, field in ((0, u64(ROOM)), (8, u64(room)), (16, bytes(4)), (28, u64(come))):
+    for at, field in ((0, u64(ROOM)), (8, u64(room)), (16, bytes(4)), (COME_AT, u64(come))):
         state = build.with_bytes(state, at, field) if below(rng, 8) != 0 else state
+    if below(rng, 2) == 0:
+        state = build.with_bytes(state, HEAD_AT + sparse.CHECKSUM_AT, bytes(4))
     return state
+
+
+def kept_sum(state: bytes) -> Dict[int, bytes]:
+    """The checksum's state, where no call changes it: the known fields of the file header
+    have come, and none is stated there."""
+    head = state[HEAD_AT:HEAD_AT + sparse.HEADER_LENGTH]
+    if fields.read(state, COME_AT, 8) < sparse.HEADER_LENGTH:
+        return {}
+    if sparse.is_checksum_stated(sparse.read_header(head)):
+        return {}
+    return {SUM_AT: state[SUM_AT:SUM_AT + 4]}
 
 
 def forged_calls(rng: random.Random) -> Calls:
     """Calls on a state that no pass made.  No more is known than that a finishing stores
-    nothing, and that a refusal in the state, or one given since, is given again and
-    stores nothing."""
+    nothing, that nothing is summed where no checksum is stated, and that a refusal in
+    the state, or one given since, is given again and stores nothing."""
     image = pass_input(rng)
     room = min(partition_length(rng, image), LARGEST_LENT)
     outcome = yield begin_call(rng, len(image), room)
@@ -577,11 +630,12 @@ def forged_calls(rng: random.Random) -> Calls:
     for piece, count in cases_passes.random_calls(rng, rest, cases_passes.passes_taken(rng, room)):
         lent = Lent(piece, None if count is None else many_bytes(rng, count))
         kept = lent if number != 0 or piece is None else Lent(piece, None)
-        call = Call((state,) + lent.buffers(), None, None, ({},) + kept.buffers())
+        known = kept_sum(state)
+        call = Call((state,) + lent.buffers(), None, None, (known,) + kept.buffers())
         if number != 0:
             out = (place, 0, 0)[:lent.function().answers]
-            given = {16: u32(number) + u64(place)}
-            call = call._replace(number=number, out=out, after=(given,) + kept.buffers())
+            known[16] = u32(number) + u64(place)
+            call = call._replace(number=number, out=out)
         outcome = yield lent.function(), call
         state, number, place = outcome.after[0], outcome.number or 0, outcome.out[0]
 

@@ -52,17 +52,19 @@ class Case(NamedTuple):
 
 
 P9_IMAGE = build.sparse_image(8, [build.raw(b"\xFF" * 4 + bytes(4), 8), build.fill(bytes(4), 1)])
-ALL_KINDS = build.sparse_image(4, [
+PLANS = (
     build.raw(b"abcdefgh", 4), build.fill(b"\x01\x02\x03\x04", 3), build.skip(2),
     build.unknown(7, 1, b"more"), build.raw(b"", 4), build.fill(bytes(4), 1), build.skip(1),
-])
+)
+ALL_KINDS = build.sparse_image(4, PLANS)
 
 FILES: Dict[str, bytes] = {
     "p2": build.two_chunks(),
     "p6": build.two_chunks() + b"\0",
     "p8": build.two_chunks(checksum=0),
-    "wrong": build.two_chunks(checksum=5),
+    "wrong": build.two_chunks(checksum=1),
     "kinds": ALL_KINDS,
+    "unsummed": build.sparse_image(4, PLANS, checksum=0),
     "none": b"",
     "none2": b"",
     "nothing": build.sparse_image(4096, []),
@@ -70,12 +72,13 @@ FILES: Dict[str, bytes] = {
     "cut": b"abcdefghijkl",
     "long": b"long" * 12,
     "flat": b"\xFF" * 4 + bytes(12),
+    "sum0": b"\x9D\x0A\xD9\x6D",
     "boot": build.boot_image(3, 12289, kernel=4097, ramdisk=1),
     "odd": bytes([1, 2]) + bytes(15),
     "ends": bytes([1, 0, 0, 0] + [1, 0, 1, 0] + [0] * 9),
 }
 
-LISTED = """block 4 total 10 chunks 7 checksum 0x{:08x}
+LISTED = """block 4 total 10 chunks 7 checksum {}
 first block kind        blocks       from byte     before byte fill word
           0 raw              2               0               8
           2 fill             3               8              20 0x04030201
@@ -85,7 +88,7 @@ first block kind        blocks       from byte     before byte fill word
           8 fill             1              32              36 0x00000000
           9 skip             1              36              40
 blocks raw 2 fill 4 skip 3 unknown 1
-ok written 6 skipped 4""".format(sparse.read_header(ALL_KINDS).checksum)
+ok written 6 skipped 4"""
 
 DRAWN = """block 4 total 10 cell 1
          0  ##===..?=.
@@ -101,7 +104,8 @@ CASES = (
     Case("judge p2 12", 0, "ok written 1 skipped 2"),
     Case("judge p2 11", 1, "refused 6 at 0"),
     Case("judge p6 12", 1, "refused 10 at 56"),
-    Case("judge p8 12", 1, "refused 11 at 24"),
+    Case("judge p8 12", 0, "ok written 1 skipped 2"),
+    Case("judge wrong 12", 1, "refused 11 at 24"),
     Case("judge none 0", 1, "refused 1 at 0"),
     Case("judge p2 18446744073709551616", 2, ""),
     Case("judge p2 -1", 2, ""),
@@ -118,6 +122,8 @@ CASES = (
     Case("judge ./- 12 --length 56", 2, ""),
     Case("store p2 part", 0, "ok written 1 skipped 2"),
     Case("store p6 part", 1, "refused 10 at 56"),
+    Case("store wrong cut", 1, "refused 11 at 24"),
+    Case("store wrong cut --limit 1", 1, "refused 11 at 24"),
     Case("store p2 cut --limit 0", 0, "ok stored 0"),
     Case("store --limit 0 p2 cut", 0, "ok stored 0"),
     Case("store p2 cut --limit", 2, ""),
@@ -136,8 +142,10 @@ CASES = (
     Case("store - missing --length 56", 3, ""),
     Case("list p2 --length 56", 2, ""),
     Case("list -", 3, ""),
-    Case("list kinds", 0, LISTED),
+    Case("list kinds", 0, LISTED.format(f"0x{sparse.read_header(ALL_KINDS).checksum:08x}")),
+    Case("list unsummed", 0, LISTED.format("none")),
     Case("list p6", 1, "refused 10 at 56"),
+    Case("list wrong", 1, "refused 11 at 24"),
     Case("map kinds", 0, DRAWN),
     Case("map p6 --svg refused", 1, "refused 10 at 56"),
     Case("map p2 --svg p2", 2, ""),
@@ -570,14 +578,84 @@ def folder_not_synced(tool: Tool) -> None:
     expect_end(tool.run("write flat 8 image", BAD_FOLDER="1"), 3, "again")
 
 
-def checksum_of_0(tool: Tool) -> None:
-    """Refusal 11 says more where the header states 0."""
-    words = "a checksum of 0 is taken as stated"
-    expect_end(tool.run("judge p8 12"), 1, words)
-    expect_end(tool.run("store p8 cut"), 1, words)
-    expect_end(tool.run("list p8"), 1, words)
-    done = tool.run("judge wrong 12")
-    expect(done.returncode == 1 and words not in done.stderr, "a checksum that is stated", done)
+# Images that state no checksum.
+
+UNCHECKED = "no checksum is stated: the data were not checked"
+
+
+def tried_on(tool: Tool, words: str, image: bytes, piped: bool) -> Tuple["subprocess.CompletedProcess[str]", bytes]:
+    """How a command on an image in a file ends, or on one that comes by standard input, and the partition then."""
+    save("image", image)
+    save("fresh", FILES["long"])
+    done = tool.send(words, [image[:45], image[45:]]) if piped else tool.run(words, "<image")
+    return done, read("fresh")
+
+
+def commands_on(image: bytes) -> Iterator[Tuple[str, bool]]:
+    """Commands on an image that is accepted, and whether it comes through a pipe."""
+    for words in ("judge image 48", "store image fresh", "store image fresh --limit 3", "store image fresh --dry-run",
+                  "store image fresh --limit 3 --dry-run", "list image"):
+        yield words, False
+    for words in (f"judge - 48 --length {len(image)}", f"store - fresh --length {len(image)}"):
+        yield words, False
+        yield words, True
+
+
+def none_stated(tool: Tool) -> None:
+    """An image that states no checksum gets the answer and the partition of one that states the true one, and that
+    its data were not checked is said."""
+    for stated, unstated in ((FILES["p2"], FILES["p8"]), (FILES["kinds"], FILES["unsummed"])):
+        for words, piped in commands_on(stated):
+            want, after = tried_on(tool, words, stated, piped)
+            done, left = tried_on(tool, words, unstated, piped)
+            expect(done.returncode == want.returncode == 0 and left == after, words, done)
+            answers = [re.sub("checksum .*", "", told.stdout) for told in (want, done)]
+            expect(answers[0] == answers[1] != "", f"{words}: the answer", done)
+            expect(want.stderr == "" and done.stderr == UNCHECKED + "\n", f"{words}: what is said", done)
+    done = tool.run("judge p8 12", "2>&1")
+    expect(done.stdout == f"ok written 1 skipped 2\n{UNCHECKED}\n", "the answer comes first", done)
+    done, left = tried_on(tool, "store image fresh", FILES["p8"] + b"\0", False)
+    expect(done.stderr.startswith("refused 10 at 56\n") and UNCHECKED not in done.stderr, "a refusal", done)
+    expect(left == FILES["long"], "the partition after a refusal")
+
+
+def none_stated_in_json(tool: Tool) -> None:
+    """The object says it in a member that no other image gives; a checksum is a number there, also 0."""
+    for words, piped in commands_on(ALL_KINDS):
+        want = tried_on(tool, words + " --json", ALL_KINDS, piped)[0]
+        done = tried_on(tool, words + " --json", FILES["unsummed"], piped)[0]
+        told, wanted = json.loads(done.stdout), json.loads(want.stdout)
+        expect(told.pop("unchecked") == UNCHECKED and want.stderr == done.stderr == "", words, done)
+        if "list" in words:
+            expect(told.pop("checksum") == 0 != wanted.pop("checksum"), words, done)
+        expect(told == wanted, f"{words}: {wanted} expected", done)
+
+
+def not_checked(tool: Tool) -> None:
+    """Other data are stored where no checksum is stated; where a wrong one is, nothing is but through a pipe."""
+    for at in range(40, 48):
+        image = build.with_bytes(FILES["unsummed"], at, b"!")
+        done, left = tried_on(tool, "store image fresh", image, False)
+        expect(done.stderr == UNCHECKED + "\n" and left == store.store(image, FILES["long"])[1] and b"!" in left,
+               f"byte {at}", done)
+    for words, piped in commands_on(FILES["wrong"]):
+        done, left = tried_on(tool, words, FILES["wrong"], piped)
+        expect_end(done, 1, "refused 11 at 24\nchecksum differs\n")
+        due = 4 if piped and "store" in words else 0
+        expect(left == b"\xFF" * due + FILES["long"][due:], f"{words}: the partition", done)
+
+
+def true_sum_of_0(tool: Tool) -> None:
+    """The image of flat bytes whose checksum is 0 states 0, and gives them back."""
+    expect(tool.run("write sum0 4 image").stdout == "ok bytes 44\n", "an image is written")
+    image = read("image")
+    true_image = build.sparse_image(4, [build.fill(FILES["sum0"], 1)])
+    expect(image == true_image and image[24:28] == bytes(4), f"the image {image!r}")
+    for words, piped in commands_on(image):
+        done, left = tried_on(tool, words, image, piped)
+        expect(done.returncode == 0 and done.stderr == UNCHECKED + "\n", words, done)
+        stores = "store" in words and "--dry-run" not in words
+        expect(left == (FILES["sum0"] if stores else b"long") + FILES["long"][4:], f"{words}: the partition", done)
 
 
 # Images that come by standard input.
@@ -996,7 +1074,8 @@ def long_images(tool: Tool) -> None:
 CHECKS: Tuple[Callable[[Tool], None], ...] = (
     closed_descriptors, printed_into_files, kinds_of_targets, block_devices, links, locks, locks_to_the_end,
     starts_at_once, replaced_at_once, changed_image, lost_partitions, bad_disk, pipes_as_images, interrupted_writes,
-    folder_not_synced, checksum_of_0,
+    folder_not_synced,
+    none_stated, none_stated_in_json, not_checked, true_sum_of_0,
     sent_in_pieces, sent_from_files, wrong_lengths, kinds_of_input, killed_on_the_way, faults_on_the_way,
     shown_from_pipes, shown_from_files, told_on_terminals,
     help_and_version, same_words, not_printed, same_in_json, as_the_reference, names_of_any_bytes, long_images,

@@ -74,6 +74,18 @@ def big_number_images() -> List[bytes]:
     return images
 
 
+def checksum_images() -> List[bytes]:
+    """Images that state 0, true or not, and the same with checksum 1: every kind of chunk
+    with headers of several sizes, many chunks, and the longest that are read."""
+    images = [build.two_chunks(checksum=0), build.two_chunks(second_type=0xCAC5, checksum=0)]
+    for sizes in ((28, 12), (28, 16), (36, 20), (1000, 400)):
+        images += cases_sparse.none_stated_images(*sizes)
+    images += cases_sparse.zero_sum_images()
+    images += [build.sparse_image(4, many_chunks(count), checksum=0) for count in (4, 99, 4000)]
+    images += [build.stating(image, 0) for image in long_images()[:3] + big_number_images()]
+    return images + [build.stating(image, 1) for image in images]
+
+
 def inputs() -> List[bytes]:
     """Every input, each once."""
     rng = random.Random(SEED)
@@ -83,6 +95,7 @@ def inputs() -> List[bytes]:
     found += [build.sparse_image(8, empties[:count]) for count in range(5)]
     found += [build.sparse_image(4, many_chunks(count)) for count in (4, 9, 10, 99, 1000, 4000)]
     found += long_images() + big_number_images() + list(cases_store.SMALL_IMAGES)
+    found += checksum_images()
     cases = cases_sparse.example_cases() + cases_sparse.cut_cases() + cases_sparse.sum_cases()
     cases += cases_sparse.end_cases() + cases_sparse.header_size_cases()
     cases += cases_sparse.block_size_cases() + cases_sparse.type_cases()

@@ -11,7 +11,7 @@ small_blocks=(4 64 256)
 blocks=(1024 1028 4096 5000 65536)
 pages=(2048 4096 8192 16384)
 header_lengths=(1632 1648 1660 1580 1584)
-declare -A came_out=([agrees]=0 [11]=0 [24]=0)
+declare -A came_out=([agrees]=0 [24]=0)
 failed=0
 
 if [ ! -x "$tool" ]; then
@@ -72,6 +72,31 @@ for size in map(int, sys.argv[1:]):
 END
 }
 
+# Images of 64 blocks that state no checksum and skip blocks: all, the ends, some between, and any.
+make_gaps() {
+    python3 - "$@" <<'END'
+import random, struct, sys
+
+random.seed(2)
+types = {"raw": 0xCAC1, "fill": 0xCAC2, "skip": 0xCAC3}
+plans = {
+    "all": ["skip"],
+    "ends": ["skip", "raw", "fill", "skip"],
+    "between": ["raw", "skip", "skip", "fill", "skip", "fill", "raw", "raw"],
+    "any": random.choices(list(types), k=32),
+}
+for size in map(int, sys.argv[1:]):
+    for name, kinds in plans.items():
+        blocks = 64 // len(kinds)
+        lengths = {"raw": blocks * size, "fill": 4, "skip": 0}
+        with open(f"gaps-{name}.{size}", "wb") as file:
+            file.write(struct.pack("<IHHHHIIII", 0xED26FF3A, 1, 0, 28, 12, size, 64, len(kinds), 0))
+            for kind in kinds:
+                data = random.randbytes(lengths[kind])
+                file.write(struct.pack("<HHII", types[kind], 0, blocks, 12 + len(data)) + data)
+END
+}
+
 comes_back() {
     simg2img "$1.image" "$1.back" && cmp "$1" "$1.back"
 }
@@ -91,15 +116,29 @@ says() {
     [ "${said%%$'\n'*}" = "$want" ]
 }
 
-# A checksum of 0 is taken as stated, so the judge answers 11, but for no data, whose checksum is 0.
-judge_theirs() {
+# Stores an image on a zeroed partition of so many bytes, the file stored.
+store_zeroed() {
+    rm -f stored
+    truncate -s "$2" stored && "$tool" store "$1" stored
+}
+
+stored_as_flat() {
+    store_zeroed "$1.theirs" "$(stat -c %s "$1")" && cmp "$1" stored
+}
+
+stored_as_made() {
+    store_zeroed "$1" "$2" && simg2img "$1" made && cmp made stored
+}
+
+# A checksum of 0 states none, so the image is accepted as it comes.
+try_theirs() {
     local length
     length=$(stat -c %s "$1")
-    if [ "$length" = 0 ]; then
-        expect agrees "judge of img2simg's image, $1" says "ok written 0 skipped 0" judge "$1.theirs" 0
-    else
-        expect 11 "judge of img2simg's image, $1" says "refused 11 at 24" judge "$1.theirs" "$length"
-    fi
+    expect agrees "img2simg, $1" same_but_checksum "$1" "$2"
+    expect agrees "judge of img2simg's image, $1" \
+        says "ok written $((length / $2)) skipped 0" judge "$1.theirs" "$length"
+    expect agrees "store of img2simg's image, $1" stored_as_flat "$1"
+    [ $has_simg2img = 0 ] || expect agrees "simg2img of img2simg's image, $1" stored_as_made "$1.theirs" "$length"
 }
 
 # Files for the sections that mkbootimg takes; an empty one is a section that is left out.
@@ -212,9 +251,17 @@ if [ $((has_simg2img + has_img2simg)) -gt 0 ]; then
             expect agrees "write, $flat" "$tool" write "$flat" "$block" "$flat.image"
             [ $has_simg2img = 0 ] || expect agrees "simg2img, $flat" comes_back "$flat"
             if [ $has_img2simg = 1 ] && [ "$block" -ge 1024 ]; then
-                expect agrees "img2simg, $flat" same_but_checksum "$flat" "$block"
-                judge_theirs "$flat"
+                try_theirs "$flat" "$block"
             fi
+        done
+    done
+fi
+
+if [ $has_simg2img = 1 ]; then
+    make_gaps "${small_blocks[@]}" "${blocks[@]}"
+    for block in "${small_blocks[@]}" "${blocks[@]}"; do
+        for gaps in gaps-{all,ends,between,any}."$block"; do
+            expect agrees "simg2img, $gaps" stored_as_made "$gaps" $((64 * block))
         done
     done
 fi
@@ -223,10 +270,9 @@ if installed mkbootimg mkbootimg; then
     try_mkbootimg
 fi
 
-if [ $((came_out[agrees] + came_out[11] + came_out[24] + failed)) = 0 ]; then
+if [ $((came_out[agrees] + came_out[24] + failed)) = 0 ]; then
     echo "peers: nothing tried"
 elif [ "$failed" = 0 ]; then
-    echo "peers: ${came_out[11]} refused as expected with 11 (img2simg states a checksum of 0)"
     echo "peers: ${came_out[24]} refused as expected with 24 (mkbootimg states another header size)"
     echo "peers: ${came_out[agrees]} agree"
 fi

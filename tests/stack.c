@@ -297,9 +297,8 @@ static void try_lengths(void)
     partition_len++;
 }
 
-static void try_sparse(void)
+static void try_image(void)
 {
-    make_image();
     measure(judge);
     expect(number == 0, "the image is refused");
     for (size_t step = 1; step < ROOM; step *= 3) {
@@ -311,6 +310,15 @@ static void try_sparse(void)
     for (size_t i = 0; i < sizeof starts / sizeof starts[0]; i++)
         damage(starts[i]);
     try_lengths();
+}
+
+/* The image as it was made, and stating no checksum. */
+static void try_sparse(void)
+{
+    make_image();
+    try_image();
+    put32(24, 0);
+    try_image();
 }
 
 static void try_write(void)

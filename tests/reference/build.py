@@ -5,7 +5,7 @@ and share no table of positions with the modules that read them.
 """
 
 import struct
-from typing import Any, NamedTuple, Optional, Sequence
+from typing import Any, Callable, List, NamedTuple, Optional, Sequence, Tuple
 
 import crc
 
@@ -92,6 +92,34 @@ def sparse_image(block_size: int, plans: Sequence[ChunkPlan], **given: int) -> b
     head += padding(max(28, header["file_header_size"]) - 28)
     body = b"".join(chunk(plan, max(12, header["chunk_header_size"])) for plan in plans)
     return head + body
+
+
+def zero_word(checksum_of: Callable[[bytes], int]) -> bytes:
+    """The word that makes a checksum 0.  Each bit of the word always changes the same bits
+    of the checksum; some of these changes together undo what it is for the word 0."""
+    start = checksum_of(bytes(4))
+    changes: List[Tuple[int, int]] = []
+    for bit in range(32):
+        word = 1 << bit
+        change = start ^ checksum_of(word.to_bytes(4, "little"))
+        changes.append(reduced(changes, change, word))
+        changes.sort(reverse=True)
+    left, word = reduced(changes, start, 0)
+    assert left == 0
+    return word.to_bytes(4, "little")
+
+
+def reduced(changes: Sequence[Tuple[int, int]], change: int, word: int) -> Tuple[int, int]:
+    """A change and its word without the highest bit of each of the changes."""
+    for other_change, other_word in changes:
+        if change ^ other_change < change:
+            change, word = change ^ other_change, word ^ other_word
+    return change, word
+
+
+def stating(image: bytes, checksum: int) -> bytes:
+    """The image with another checksum in its header, as far as the image reaches."""
+    return with_bytes(image, 24, checksum.to_bytes(4, "little"))[:len(image)]
 
 
 class BootPlan(NamedTuple):

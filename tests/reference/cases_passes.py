@@ -203,7 +203,7 @@ def cut_cases(rng: random.Random) -> List[Case]:
 
 
 def example_images() -> List[cases_sparse.Case]:
-    """The sparse images of P1 to P9."""
+    """The sparse images of P1 to P9, and P2 with checksum 1."""
     flat = b"\xFF" * 4 + bytes(12)
     p1, p9 = writer.write(b"", 4096, bytes(28)).output, writer.write(flat, 8, bytes(64)).output
     found = [cases_sparse.Case(p1, 0), cases_sparse.Case(p9, 16), cases_sparse.Case(p9, 15)]
@@ -219,6 +219,7 @@ def small_images() -> List[cases_sparse.Case]:
     found += [(WIDE, 12), (WIDE[:55], 12), (WIDE[:56], 12), (WIDE + b"\0", 12)]
     found += [(build.sparse_image(4, empties), 0), (build.sparse_image(65536, []), 3)]
     found += [(cases_sparse.base_image(), 64), (cases_sparse.base_image(), 70)]
+    found += [(cases_sparse.base_image(checksum=checksum), 64) for checksum in (0, 1)]
     return example_images() + [cases_sparse.Case(image, room) for image, room in found]
 
 
@@ -301,6 +302,21 @@ def wide_cases(rng: random.Random) -> List[Case]:
     return cases
 
 
+def checksum_cases(rng: random.Random) -> List[Case]:
+    """02, CR 2: images that state 0, true or not, and the same with a wrong checksum."""
+    images = cases_sparse.none_stated_images(36, 20) + cases_sparse.zero_sum_images()
+    cases = []
+    for i, image in enumerate(images):
+        room, wrong = cases_store.total_length(image), cases_sparse.with_wrong_checksum(image, i)
+        told = both(at_random(rng, image, 6), len(image), room)
+        told.append(stored([wrong], len(image), room))
+        cases += cases_of(rng, image + wrong, room, told)
+    for image in cases_sparse.wide_zero_images():
+        told = [judged(at_random(rng, image, 6), len(image), MOST_LENGTH)]
+        cases += cases_of(rng, image, 0, told)
+    return cases
+
+
 def passes_taken(rng: random.Random, room: int) -> Sequence[Optional[int]]:
     """One of the passes, or both in turn, by the partition that is lent."""
     return pick(rng, ((None,), (room,), (room,), (room, None)))
@@ -348,5 +364,5 @@ def random_cases(rng: random.Random) -> List[Case]:
 def group(rng: random.Random) -> Group:
     """All cases of the group."""
     cases = cut_cases(rng) + byte_cases(rng) + length_cases(rng) + early_cases(rng)
-    cases += wide_cases(rng) + random_cases(rng)
+    cases += wide_cases(rng) + checksum_cases(rng) + random_cases(rng)
     return Group(b"".join(map(encoded, cases)), [values(case) for case in cases])

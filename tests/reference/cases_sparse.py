@@ -2,7 +2,7 @@
 
 import itertools
 import random
-from typing import List, NamedTuple, Tuple
+from typing import Callable, List, NamedTuple, Sequence, Tuple
 
 import build
 import sparse
@@ -39,7 +39,7 @@ def values(case: Case) -> Tuple[int, ...]:
 
 
 def example_cases() -> List[Case]:
-    """P2 to P8 of document 01."""
+    """P2 to P8 of document 01, and 02's "a checksum of 1 there"."""
     image = build.two_chunks()
     return [
         Case(image, 12),
@@ -49,6 +49,7 @@ def example_cases() -> List[Case]:
         Case(image + b"\0", 12),
         Case(build.two_chunks(second_type=0xCAC5), 12),
         Case(build.two_chunks(checksum=0), 12),
+        Case(build.two_chunks(checksum=1), 12),
     ]
 
 
@@ -157,7 +158,9 @@ def block_size_cases() -> List[Case]:
     sizes += (65537, 65540, 131072, 2**31, MOST - 3, MOST)
     cases = []
     for size in sizes:
-        cases.append(Case(build.sparse_image(size, [build.skip(1)], checksum=0), ROOM))
+        for checksum in (0, 1):
+            image = build.sparse_image(size, [build.skip(1)], checksum=checksum)
+            cases.append(Case(image, ROOM))
         if sparse.is_block_size(size):
             cases.append(Case(build.sparse_image(size, [build.fill(b"abcd", 2)]), 2 * size))
     for size in (1024, 4096, 65504):
@@ -180,7 +183,7 @@ def type_cases() -> List[Case]:
     for chunk_type, total in itertools.product((0xCAC1, 0xCAC2, 0xCAC3, 0xCAC5), (8, 12, 16, 20)):
         plans = [ChunkPlan(chunk_type, 0, b"", total), build.skip(1)]
         image = build.sparse_image(8, plans, chunk_header_size=16, checksum=0)
-        cases += [Case(image, 8), Case(image[:28 + 15], 8)]
+        cases += [Case(image, 8), Case(build.stating(image, 1), 8), Case(image[:28 + 15], 8)]
     for length in (4, 40, 4000, 65000):
         plans = [build.unknown(0xCAC5, 3, bytes(length)), build.fill(b"wxyz", 1)]
         cases.append(Case(build.sparse_image(8, plans), 32))
@@ -254,11 +257,86 @@ def chunk_order_cases() -> List[Case]:
     """Every set of faults in the second chunk and after it."""
     cases = []
     for size, length, total, checksum in itertools.product(
-        (8, 12, 14, 16, 64), (43, 44, 55, 56, 57, 60, 61), (2, 3, 4), (0, MOST)
+        (8, 12, 14, 16, 64), (43, 44, 55, 56, 57, 60, 61), (2, 3, 4), (0, 1, MOST)
     ):
         image = build.two_chunks(second_type=0xCAC5, total_blocks=total, checksum=checksum)
         image = build.with_bytes(image, 52, bytes([size])) + bytes(5)
         cases.append(Case(image[:length], 16))
+    return cases
+
+
+KIND_PLANS = BASE_PLANS + (build.skip(0), build.unknown(7, 0, b"data"))
+
+
+def none_stated_images(file_header_size: int, chunk_header_size: int) -> List[bytes]:
+    """Images that state no checksum: a chunk of each kind alone, then all of them."""
+    return [
+        build.sparse_image(
+            8,
+            plans,
+            file_header_size=file_header_size,
+            chunk_header_size=chunk_header_size,
+            checksum=0,
+        )
+        for plans in [(plan,) for plan in KIND_PLANS] + [KIND_PLANS]
+    ]
+
+
+PlansOf = Callable[[bytes], Sequence[ChunkPlan]]
+
+ZERO_SUMS: Tuple[Tuple[int, PlansOf], ...] = (
+    (4, lambda word: [build.raw(word, 4)]),
+    (4, lambda word: [build.fill(word, 1)]),
+    (4, lambda word: [build.skip(3), build.fill(word, 2), build.unknown(0xCAC4, 1, b"any.")]),
+    (8, lambda word: [build.raw(b"more data, " + word + b"!", 8)]),
+    (12, lambda word: [build.fill(word, 3), build.raw(b"", 12)]),
+    (8, lambda word: BASE_PLANS[1:] + (build.raw(word + b"last", 8), build.skip(1))),
+)
+
+
+def zero_sum_image(block_size: int, plans_of: PlansOf) -> bytes:
+    """An image of some chunks, one word of which makes its true checksum 0."""
+    word = build.zero_word(lambda word: build.planned_checksum(plans_of(word), block_size))
+    return build.sparse_image(block_size, plans_of(word))
+
+
+def zero_sum_images() -> List[bytes]:
+    """Images whose true checksum is 0: those of no data at all, and others."""
+    empties = [build.raw(b"", 4), build.fill(b"abcd", 0), build.skip(0)]
+    images = [build.sparse_image(4, []), build.sparse_image(4, empties)]
+    images += [zero_sum_image(size, plans_of) for size, plans_of in ZERO_SUMS]
+    assert all(sparse.read_header(image).checksum == 0 for image in images)
+    return images
+
+
+def wide_zero_images() -> List[bytes]:
+    """Images of nearly 2^48 bytes that state 0; of the last it is the true checksum."""
+    plans = (build.fill(b"\xFF" * 4, MOST), build.skip(MOST), build.unknown(3, MOST))
+    images = [build.sparse_image(65536, [plan], checksum=0) for plan in plans]
+    last = zero_sum_image(65536, lambda word: [build.skip(MOST - 9), build.fill(word, 9)])
+    return images + [last]
+
+
+WRONG_CHECKSUMS = (1, 2**8, 2**16, 2**31, MOST)
+
+
+def with_wrong_checksum(image: bytes, i: int) -> bytes:
+    """An image that would be accepted, with one of the wrong checksums, in turn."""
+    wrong = build.stating(image, WRONG_CHECKSUMS[i % len(WRONG_CHECKSUMS)])
+    assert sparse.judge(wrong, ROOM) == sparse.Refusal(11, sparse.CHECKSUM_AT)
+    return wrong
+
+
+def checksum_cases() -> List[Case]:
+    """02, CR 2: 0 stated, true or not, and 1 in its place; any data where 0 is stated;
+    other wrong checksums."""
+    images = none_stated_images(28, 12) + none_stated_images(36, 20)
+    images += zero_sum_images() + wide_zero_images()
+    cases = [Case(build.stating(image, stated), ROOM) for image in images for stated in (0, 1)]
+    for at in (40, 55, 68, 71, 96, 103, 131):
+        cases.append(Case(build.with_bytes(base_image(checksum=0), at, b"\x5A"), BASE_LENGTH))
+    for i in range(len(WRONG_CHECKSUMS)):
+        cases.append(Case(with_wrong_checksum(base_image(), i), BASE_LENGTH))
     return cases
 
 
@@ -276,15 +354,17 @@ def random_plan(rng: random.Random, block_size: int) -> ChunkPlan:
 
 
 def random_image(rng: random.Random) -> bytes:
-    """An image of up to six chunks with headers of several sizes."""
+    """An image of up to six chunks with headers of several sizes, often with no
+    checksum stated."""
     block_size = pick(rng, (4, 8, 12, 20))
     plans = [random_plan(rng, block_size) for _ in range(below(rng, 7))]
-    return build.sparse_image(
+    image = build.sparse_image(
         block_size,
         plans,
         file_header_size=28 + 4 * pick(rng, (0, 0, 1, 5)),
         chunk_header_size=12 + 4 * pick(rng, (0, 0, 1, 3)),
     )
+    return build.stating(image, 0) if below(rng, 4) == 0 else image
 
 
 def random_cases(rng: random.Random) -> List[Case]:
@@ -305,5 +385,6 @@ def group(rng: random.Random) -> Group:
     cases = example_cases() + damaged_cases() + cut_cases() + room_cases() + sum_cases()
     cases += end_cases() + header_size_cases() + ignored_cases() + block_size_cases()
     cases += type_cases() + raw_product_cases() + long_run_cases(rng)
-    cases += header_order_cases() + chunk_order_cases() + random_cases(rng)
+    cases += header_order_cases() + chunk_order_cases() + checksum_cases()
+    cases += random_cases(rng)
     return Group(b"".join(map(encoded, cases)), [values(case) for case in cases])

@@ -210,7 +210,7 @@ SMALL_IMAGES = (
 
 
 def example_cases() -> List[Case]:
-    """P2 to P8 of document 01, each cut after 0 and after 1 block."""
+    """P2 to P8 of document 01 and P2 with checksum 1, each cut after 0 and after 1 block."""
     image = build.two_chunks()
     kept = (Run(0), Run(0, 1), Run(1))
     torn = (Run(0, 0, 0, b"????"), Run(0, 1))
@@ -221,9 +221,12 @@ def example_cases() -> List[Case]:
         (build.two_chunks(total_blocks=2), 12),
         (image + b"\0", 12),
         (build.two_chunks(checksum=0), 12),
+        (build.two_chunks(checksum=1), 12),
     ):
         cases.append(Case(length, 100, (other,), kept))
-    return cases + [Case(12, 100, (build.two_chunks(second_type=0xCAC5),), torn)]
+    for other in (build.two_chunks(second_type=0xCAC5), build.two_chunks(checksum=0)):
+        cases.append(Case(12, 100, (other,), torn))
+    return cases
 
 
 def single_cases(rng: random.Random) -> List[Case]:
@@ -371,6 +374,21 @@ def list_cases(rng: random.Random) -> List[Case]:
     return cases
 
 
+def checksum_cases(rng: random.Random) -> List[Case]:
+    """02, CR 2: images that state 0, true or not, cut after each block; before each the
+    same with a wrong checksum, which stores nothing."""
+    images = [build.stating(image, 0) for image in SMALL_IMAGES[2:]]
+    images += cases_sparse.none_stated_images(36, 20)[:4] + cases_sparse.zero_sum_images()
+    cases = []
+    for i, image in enumerate(images):
+        listed = (cases_sparse.with_wrong_checksum(image, i), image)
+        length = total_length(image) + below(rng, 2)
+        cuts = list(all_cuts(listed, length, 1))
+        runs = [cut_run(rng, listed, length, *cut, below(rng, SHAPES)) for cut in cuts]
+        cases.append(Case(length, below(rng, 256), listed, tuple(runs)))
+    return cases
+
+
 def random_plan(rng: random.Random, block_size: int) -> ChunkPlan:
     """A small chunk of any kind, sometimes empty."""
     blocks = below(rng, 4)
@@ -385,7 +403,7 @@ def random_plan(rng: random.Random, block_size: int) -> ChunkPlan:
 
 
 def random_image(rng: random.Random) -> bytes:
-    """A small image, now and then one to refuse."""
+    """A small image, often with no checksum stated, now and then one to refuse."""
     block_size = pick(rng, (4, 8, 12, 16, 28))
     plans = [random_plan(rng, block_size) for _ in range(below(rng, 5))]
     image = build.sparse_image(block_size, plans, chunk_header_size=pick(rng, (12, 12, 12, 16)))
@@ -393,7 +411,7 @@ def random_image(rng: random.Random) -> bytes:
         return image[:below(rng, len(image))] + b"\0"
     if below(rng, 8) == 0:
         return build.with_bytes(image, 24, some_bytes(rng, 4))
-    return image
+    return build.stating(image, 0) if below(rng, 4) == 0 else image
 
 
 def random_cases(rng: random.Random) -> List[Case]:
@@ -412,5 +430,5 @@ def random_cases(rng: random.Random) -> List[Case]:
 def group(rng: random.Random) -> Group:
     """All cases of the group."""
     cases = example_cases() + single_cases(rng) + repeated_cases(rng) + refused_cases(rng)
-    cases += room_cases(rng) + list_cases(rng) + random_cases(rng)
+    cases += room_cases(rng) + list_cases(rng) + checksum_cases(rng) + random_cases(rng)
     return Group(b"".join(map(encoded, cases)), [values(case) for case in cases])

@@ -4,6 +4,7 @@ import itertools
 import random
 from typing import Iterable, List, NamedTuple, Sequence, Tuple
 
+import build
 import crc
 import writer
 from cases_common import Group, below, patched_image, pick, some_bytes, u32
@@ -157,6 +158,28 @@ def long_cases() -> List[Case]:
     return cases
 
 
+def zero_sum_flat(before: bytes, times: int, after: bytes) -> bytes:
+    """Flat bytes whose checksum is 0 by the word between two parts, so many times."""
+    def flat_of(word: bytes) -> bytes:
+        return before + word * times + after
+    return flat_of(build.zero_word(lambda word: crc.checksum(flat_of(word))))
+
+
+def zero_sum_cases() -> List[Case]:
+    """Flat bytes whose true checksum is 0: one raw block, also after fill, and fill alone."""
+    cases = []
+    for size in RIGHT_SIZES:
+        words = size // 4
+        flats = [zero_sum_flat(b"", 1, bytes(size - 4)), zero_sum_flat(bytes(size - 4), 1, b"")]
+        if 2 * size <= LONGEST_FLAT:
+            flats.append(zero_sum_flat(bytes(size), 1, bytes(size - 4)))
+        if size <= 16:
+            flats.append(zero_sum_flat(b"", 3 * words, b""))
+            flats.append(zero_sum_flat(b"tarp" * words, words, bytes(size)))
+        cases += [case for flat in dict.fromkeys(flats) for case in fitted(flat, size)]
+    return cases
+
+
 def random_flat(rng: random.Random, block_size: int) -> bytes:
     """Blocks of few words, so that neighbours are often alike."""
     words: Sequence[bytes] = (bytes(4), b"\xFF" * 4, b"\0\0\0\x01", some_bytes(rng, 4))
@@ -183,5 +206,6 @@ def random_cases(rng: random.Random) -> List[Case]:
 def group(rng: random.Random) -> Group:
     """All cases of the group."""
     cases = example_cases() + block_size_cases() + pattern_cases() + one_byte_cases()
-    cases += neighbour_cases() + order_cases() + long_cases() + random_cases(rng)
+    cases += neighbour_cases() + order_cases() + long_cases() + zero_sum_cases()
+    cases += random_cases(rng)
     return Group(b"".join(map(encoded, cases)), [values(case) for case in cases])

@@ -1,4 +1,4 @@
-"""Judging and storing an image as it comes: document 02, change request 1.
+"""Judging and storing an image as it comes: document 02, change requests 1 and 2.
 
 "We want a judging pass, then a storing pass, each told the full length of image
 and partition, then fed the image however the radio cuts it."
@@ -195,14 +195,25 @@ def after_chunk_header(state: State) -> State:
     return state._replace(waits_for=CHUNK_END, chunk=chunk, part=b"")
 
 
+def summed(state: State, step: Callable[..., int], *given: Union[bytes, int]) -> State:
+    """The state after a step of the checksum's; where none is stated there are no steps."""
+    if not sparse.is_checksum_stated(state.header):
+        return state
+    return state._replace(checksum_state=step(state.checksum_state, *given))
+
+
+def is_checksum_wrong(state: State) -> bool:
+    """11: "checksum differs", where one is stated."""
+    checksum = state.checksum_state ^ crc.ALL_ONES
+    return sparse.is_checksum_stated(state.header) and checksum != state.header.checksum
+
+
 def after_chunk(state: State) -> State:
     """A chunk has come whole; a skipped one counts as zeros in the checksum."""
     chunk = state.chunk
     if chunk.kind == sparse.SKIP:
-        zeros = chunk.blocks * state.header.block_size
-        checksum_state = crc.after_zeros(state.checksum_state, zeros)
-        skipped = state.skipped + chunk.blocks
-        state = state._replace(checksum_state=checksum_state, skipped=skipped)
+        state = summed(state, crc.after_zeros, chunk.blocks * state.header.block_size)
+        state = state._replace(skipped=state.skipped + chunk.blocks)
     blocks = state.blocks + chunk.blocks
     return at_chunk(state._replace(offset=chunk.end, chunks=state.chunks + 1, blocks=blocks))
 
@@ -214,7 +225,7 @@ def at_end(state: State) -> State:
         return refused(state, Refusal(9, state.offset))
     if state.offset < state.length:
         return refused(state, Refusal(10, state.offset))
-    if state.checksum_state ^ crc.ALL_ONES != state.header.checksum:
+    if is_checksum_wrong(state):
         return refused(state, Refusal(11, sparse.CHECKSUM_AT))
     return state._replace(waits_for=FINISH)
 
@@ -241,8 +252,7 @@ def with_raw(state: State, data: bytes) -> Tuple[State, List[Due]]:
     chunk = state.chunk
     first = chunk.first_block * state.header.block_size
     at = first + max(0, state.come - chunk.data_at)
-    checksum_state = crc.after_bytes(state.checksum_state, data)
-    return state._replace(checksum_state=checksum_state), [Due(at, data, 1)]
+    return summed(state, crc.after_bytes, data), [Due(at, data, 1)]
 
 
 def with_fill(state: State, data: bytes) -> Tuple[State, List[Due]]:
@@ -253,10 +263,8 @@ def with_fill(state: State, data: bytes) -> Tuple[State, List[Due]]:
     if len(word) < 4:
         return state, []
     words = chunk.blocks * state.header.block_size // 4
-    number = int.from_bytes(word, "little")
-    checksum_state = crc.after_words(state.checksum_state, number, words)
     due = Due(chunk.first_block * state.header.block_size, word, words)
-    return state._replace(checksum_state=checksum_state), [due]
+    return summed(state, crc.after_words, int.from_bytes(word, "little"), words), [due]
 
 
 def with_body(state: State, stretch: bytes) -> Tuple[State, List[Due]]:

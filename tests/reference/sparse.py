@@ -1,7 +1,8 @@
 """Judging a sparse image against a partition length.
 
-Document 01, "Sparse header and chunks" and refusals 1 to 11.  Chunks are
-treated as runs of blocks, so an image may name 2^48 bytes.
+Document 01, "Sparse header and chunks" and refusals 1 to 11, and document 02,
+change request 2.  Chunks are treated as runs of blocks, so an image may name
+2^48 bytes.
 """
 
 from dataclasses import dataclass
@@ -186,6 +187,18 @@ def image_checksum(image: bytes, header: Header, chunks: List[Chunk]) -> int:
     return state ^ crc.ALL_ONES
 
 
+def is_checksum_stated(header: Header) -> bool:
+    """02, CR 2: "in all forms, 0 means that none is stated"."""
+    return header.checksum != 0
+
+
+def is_checksum_wrong(image: bytes, header: Header, chunks: List[Chunk]) -> bool:
+    """11: "checksum differs"; none is worked out where none is stated."""
+    if not is_checksum_stated(header):
+        return False
+    return image_checksum(image, header, chunks) != header.checksum
+
+
 def count(chunks: List[Chunk]) -> Accepted:
     """Blocks written (raw and fill) and blocks skipped (all other)."""
     skipped = sum(chunk.blocks for chunk in chunks if chunk.kind == SKIP)
@@ -201,7 +214,7 @@ def judge(image: bytes, partition_length: int) -> Verdict:
     chunks = walk(image, header)
     if isinstance(chunks, Refusal):
         return chunks
-    if image_checksum(image, header, chunks) != header.checksum:
+    if is_checksum_wrong(image, header, chunks):
         return Refusal(11, CHECKSUM_AT)
     return count(chunks)
 

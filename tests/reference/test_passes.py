@@ -1,4 +1,4 @@
-"""Holds the passes of change request 1 against document 02 and the whole forms.
+"""Holds the passes of change requests 1 and 2 against document 02 and the whole forms.
 
 Run by `python3 tests/reference/test_passes.py`.
 """
@@ -12,6 +12,7 @@ import build
 import cases_passes
 import cases_sparse
 import cases_store
+import crc
 import passes
 import sparse
 import store
@@ -190,7 +191,7 @@ def all_cases() -> List[Case]:
     cases += cases_sparse.block_size_cases() + cases_sparse.type_cases()
     cases += cases_sparse.raw_product_cases() + cases_sparse.long_run_cases(rng)
     cases += cases_sparse.header_order_cases() + cases_sparse.chunk_order_cases()
-    return cases + cases_sparse.random_cases(rng)
+    return cases + cases_sparse.checksum_cases() + cases_sparse.random_cases(rng)
 
 
 def accepted_cases() -> List[Case]:
@@ -198,6 +199,7 @@ def accepted_cases() -> List[Case]:
     rng = random.Random(12)
     images = list(cases_store.SMALL_IMAGES)
     images += [cases_sparse.base_image(), build.two_chunks(chunk_header_size=20)]
+    images += cases_sparse.none_stated_images(36, 20) + cases_sparse.zero_sum_images()
     images += [cases_store.random_image(rng) for _ in range(60)]
     cases = []
     for i, image in enumerate(images):
@@ -308,8 +310,12 @@ class TestMoments(unittest.TestCase):
             (P2 + b"\0", 57, 12, Refusal(10, 56), 56),
             (P2, 1000, 12, Refusal(10, 56), 56),
             (build.two_chunks(total_chunks=3), 56, 12, Refusal(7, 56), 56),
-            (build.two_chunks(checksum=0), 56, 12, Refusal(11, 24), 56),
-            (build.two_chunks(second_type=0xCAC5, checksum=0), 56, 12, Refusal(11, 24), 56),
+            (build.two_chunks(checksum=1), 56, 12, Refusal(11, 24), 56),
+            (build.two_chunks(second_type=0xCAC5, checksum=1), 56, 12, Refusal(11, 24), 56),
+            (build.sparse_image(4, [], checksum=1), 28, 12, Refusal(11, 24), 28),
+            (build.two_chunks(checksum=0), 56, 12, None, 56),
+            (build.two_chunks(second_type=0xCAC5, checksum=0), 56, 12, None, 56),
+            (build.two_chunks(checksum=0) + b"\0", 57, 12, Refusal(10, 56), 56),
         ):
             self.assertEqual(self.moment(image, length, room), (refusal, come))
 
@@ -421,8 +427,9 @@ class TestLateRefusals(unittest.TestCase):
 
     def test_after_a_fill(self) -> None:
         left = b"\xFF" * 4 + OLD[4:]
-        self.check(build.two_chunks(checksum=0), Refusal(11, 24), left)
+        self.check(build.two_chunks(checksum=1), Refusal(11, 24), left)
         self.check(P2 + b"\0", Refusal(10, 56), left)
+        self.check(build.two_chunks(checksum=0) + b"\0", Refusal(10, 56), left)
         self.check(build.two_chunks(total_blocks=2), Refusal(9, 44), left)
         self.check(build.with_bytes(P2, 52, b"\x10"), Refusal(8, 44), left)
         self.check(build.with_bytes(build.two_chunks(0xCAC5), 52, b"\x10"), Refusal(7, 44), left)
@@ -436,11 +443,71 @@ class TestLateRefusals(unittest.TestCase):
         self.check(image[:-1], Refusal(7, 44), left)
         self.check(build.with_bytes(image, 52, b"\x18"), Refusal(8, 44), left)
         self.check(build.with_bytes(image, 36, b"\x0C"), Refusal(8, 28), OLD)
-        self.check(build.with_bytes(image, 24, bytes(4)), Refusal(11, 24), b"noneabcdefgh")
+        self.check(build.stating(image, 1), Refusal(11, 24), b"noneabcdefgh")
 
     def test_other_bytes_than_were_judged(self) -> None:
         image = build.with_bytes(RAW, 44, b"!")
         self.check(image, Refusal(11, 24), b"abcd!fgh" + OLD[8:])
+
+
+class TestNoneStated(unittest.TestCase):
+    """CR 2: "in all forms, 0 means that none is stated"."""
+
+    def images(self) -> List[bytes]:
+        """Images that state 0, with every kind of chunk; of some it is the true one."""
+        images = cases_sparse.none_stated_images(28, 12) + cases_sparse.zero_sum_images()
+        return images + cases_sparse.none_stated_images(36, 20)
+
+    def test_p8(self) -> None:
+        """"P8 becomes an acceptance equal to P2"."""
+        p8 = build.two_chunks(checksum=0)
+        cuttings = list(in_two(p8)) + [by_bytes(p8)]
+        for pieces, others in zip(cuttings, list(in_two(P2)) + [by_bytes(P2)]):
+            self.assertEqual(judged(pieces, 56, 12), judged(others, 56, 12))
+            self.assertEqual(stored(pieces, 56, OLD), stored(others, 56, OLD))
+        left = b"\xFF" * 4 + OLD[4:]
+        self.assertEqual(stored([p8], 56, OLD)[-1], Moment(Accepted(1, 2), left))
+
+    def test_p2_with_checksum_1(self) -> None:
+        """"a checksum of 1 there still gives 11"."""
+        image = build.two_chunks(checksum=1)
+        for pieces in in_two(image):
+            self.assertEqual(judged(pieces, 56, 12)[1:], [Refusal(11, 24)] * 2)
+
+    def test_as_the_whole_form(self) -> None:
+        rng = random.Random(20)
+        for image in self.images():
+            room = cases_store.total_length(image)
+            old = random_bytes(rng, room)
+            for pieces in ([image], by_bytes(image), at_random(rng, image, 7)):
+                moments = stored(pieces, len(image), old)
+                self.assertEqual(moments[-1], Moment(*store.store(image, old)))
+                self.assertIsInstance(moments[-1].answer, Accepted)
+                self.assertEqual(judged(pieces, len(image), room)[-1], moments[-1].answer)
+            wrong = build.stating(image, 1)
+            self.assertEqual(judged([wrong], len(image), room), [Refusal(11, 24)] * 2)
+
+    def sums(self, image: bytes) -> List[int]:
+        """The checksum's states of a pass that is fed byte by byte."""
+        state = passes.begin(len(image), cases_store.total_length(image))
+        found = []
+        for byte in by_bytes(image):
+            state = passes.judge_piece(state, byte)[0]
+            found.append(state.checksum_state)
+        return found
+
+    def test_nothing_is_summed(self) -> None:
+        for image in self.images():
+            self.assertEqual(self.sums(image), [crc.ALL_ONES] * len(image))
+
+    def test_all_is_summed_where_one_is_stated(self) -> None:
+        for image in cases_store.SMALL_IMAGES + (cases_sparse.base_image(),):
+            header = sparse.read_header(image)
+            sums = self.sums(image)
+            start = [crc.ALL_ONES] * header.file_header_size
+            self.assertEqual(sums[:header.file_header_size], start)
+            self.assertEqual(sums[-1], header.checksum ^ crc.ALL_ONES)
+            self.assertEqual(self.sums(build.stating(image, 1)), sums)
 
 
 class TestNewRefusals(unittest.TestCase):

@@ -1,14 +1,17 @@
-"""Holds the reference program against document 01.
+"""Holds the reference program against document 01, and 02's change request 2.
 
 Run by `python3 tests/reference/test_reference.py`.
 """
 
 import random
 import unittest
+import unittest.mock
 from typing import List, Sequence
 
 import boot
 import build
+import cases_sparse
+import cases_write
 import crc
 import fields
 import lister
@@ -26,6 +29,8 @@ P2 = bytes.fromhex(
     "C3CA 0000 02000000 0C000000"
 )
 P1 = bytes.fromhex("3AFF26ED01000000 1C000C0000100000") + bytes(12)
+P8 = build.with_bytes(P2, 24, bytes(4))
+ZERO_SUM_WORD = bytes.fromhex("9D0AD96D")
 OLD = bytes(range(100, 112))
 
 
@@ -47,7 +52,7 @@ def random_plan(rng: random.Random, block_size: int) -> build.ChunkPlan:
 
 
 def random_image(rng: random.Random) -> bytes:
-    """A small image, now and then one to refuse."""
+    """A small image, often with no checksum stated, now and then one to refuse."""
     block_size = rng.choice([4, 8, 12])
     plans = [random_plan(rng, block_size) for _ in range(rng.randrange(5))]
     image = build.sparse_image(block_size, plans)
@@ -55,7 +60,7 @@ def random_image(rng: random.Random) -> bytes:
         return image + b"\0"
     if rng.randrange(5) == 0:
         return build.sparse_image(block_size, plans, checksum=rng.getrandbits(32))
-    return image
+    return build.stating(image, 0) if rng.randrange(4) == 0 else image
 
 
 class TestCrc(unittest.TestCase):
@@ -143,8 +148,15 @@ class TestSparseExamples(unittest.TestCase):
         self.assertEqual(store.store(image, OLD), store.store(P2, OLD))
 
     def test_p8(self) -> None:
-        image = build.with_bytes(P2, 24, bytes(4))
-        self.assertEqual(sparse.judge(image, 12), Refusal(11, 24))
+        """02, CR 2: "P8 becomes an acceptance equal to P2"."""
+        self.assertEqual(build.two_chunks(checksum=0), P8)
+        for length in (11, 12, 13, 2**64 - 1):
+            self.assertEqual(sparse.judge(P8, length), sparse.judge(P2, length))
+        self.assertEqual(store.store(P8, OLD), (Accepted(1, 2), b"\xFF" * 4 + OLD[4:]))
+        for limit in (0, 1, 2, 2**64 - 1):
+            stored = store.store_limited(P8, OLD, limit)
+            self.assertEqual(stored, store.store_limited(P2, OLD, limit))
+        self.assertEqual(store.cut_state(P8, OLD, 0, b"??"), b"??" + OLD[2:])
 
 
 class TestSparseRefusals(unittest.TestCase):
@@ -215,7 +227,7 @@ class TestSparseRefusals(unittest.TestCase):
     def test_end(self) -> None:
         self.check(P2 + b"\0", 10, 56)
         self.check(build.two_chunks(total_chunks=0, total_blocks=0), 10, 28)
-        for checksum in (0, 1, 0xFFFFFFFE):
+        for checksum in (1, 0x100, 0x10000, 0x80000000, 0xFFFFFFFE):
             self.check(build.two_chunks(checksum=checksum), 11, 24)
 
     def test_order_of_header_tests(self) -> None:
@@ -242,14 +254,84 @@ class TestSparseRefusals(unittest.TestCase):
         self.check(build.with_bytes(far, 36, b"\x0C"), 8, 28)
 
     def test_order_at_the_end(self) -> None:
-        self.check(build.two_chunks(total_blocks=4, checksum=0) + b"\0", 9, 56, 16)
-        self.check(build.two_chunks(checksum=0) + b"\0", 10, 56)
+        for checksum in (0, 1):
+            short = build.two_chunks(total_blocks=4, checksum=checksum)
+            self.check(short + b"\0", 9, 56, 16)
+            self.check(build.two_chunks(checksum=checksum) + b"\0", 10, 56)
 
     def test_empty(self) -> None:
         self.assertEqual(sparse.judge(build.sparse_image(4, []), 0), Accepted(0, 0))
         self.check(build.sparse_image(4, [], checksum=1), 11, 24)
         plans = [build.raw(b"", 4), build.fill(b"abcd", 0), build.skip(0), build.unknown(7, 0)]
         self.assertEqual(sparse.judge(build.sparse_image(4, plans), 0), Accepted(0, 0))
+
+
+class TestNoneStated(unittest.TestCase):
+    """02, CR 2: "in all forms, 0 means that none is stated"."""
+
+    def true_one(self, image: bytes) -> int:
+        """The checksum of what an image stores on zeros: skipped blocks count as zeros."""
+        header = sparse.read_header(image)
+        length = header.total_blocks * header.block_size
+        return crc.checksum_by_bits(store.last_given([image], bytes(length)))
+
+    def check(self, image: bytes) -> None:
+        """An image that states 0 is as the same with the true checksum; 1 is refused."""
+        header = sparse.read_header(image)
+        self.assertEqual(header.checksum, 0)
+        room = header.total_blocks * header.block_size
+        old = bytes((37 + 11 * i) % 256 for i in range(room + 5))
+        right = build.stating(image, self.true_one(image))
+        for limit in range(room + 1):
+            stored = store.store_limited(image, old, limit)
+            self.assertEqual(stored, store.store_limited(right, old, limit))
+            self.assertIsInstance(stored.verdict, Accepted)
+        for length in (room, max(0, room - 1)):
+            self.assertEqual(sparse.judge(image, length), sparse.judge(right, length))
+        self.assertEqual(store.store(image, old), store.store(right, old))
+        self.assertEqual(lister.listing(image), lister.listing(right))
+        wrong = build.stating(image, 1)
+        self.assertEqual(store.store(wrong, old), (Refusal(11, 24), old))
+        self.assertEqual(lister.listing(wrong), "refused 11 at 24\n")
+
+    def test_every_kind_of_chunk(self) -> None:
+        for sizes in ((28, 12), (28, 16), (32, 12), (100, 40)):
+            for image in cases_sparse.none_stated_images(*sizes):
+                self.check(image)
+
+    def test_a_true_one_that_is_0(self) -> None:
+        self.assertEqual(crc.checksum_by_bits(ZERO_SUM_WORD), 0)
+        self.assertEqual(crc.checksum_by_bits(b""), 0)
+        for image in cases_sparse.zero_sum_images():
+            self.assertEqual(self.true_one(image), 0)
+            self.check(image)
+        for plan in (build.raw(ZERO_SUM_WORD, 4), build.fill(ZERO_SUM_WORD, 1)):
+            image = build.sparse_image(4, [plan])
+            self.assertEqual(store.store(image, OLD), (Accepted(1, 0), ZERO_SUM_WORD + OLD[4:]))
+            self.check(image)
+
+    def test_any_data(self) -> None:
+        image = build.sparse_image(4, [build.raw(b"abcd", 4), build.fill(b"wxyz", 1)], checksum=0)
+        for at in (40, 41, 42, 43, 56, 57, 58, 59):
+            self.check(build.with_bytes(image, at, b"!"))
+
+    def test_long_runs(self) -> None:
+        for image in cases_sparse.wide_zero_images():
+            verdict = sparse.judge(image, 2**48)
+            self.assertIsInstance(verdict, Accepted)
+            self.assertEqual(sparse.judge(build.stating(image, 1), 2**48), Refusal(11, 24))
+
+    def test_earlier_refusals(self) -> None:
+        image = build.two_chunks(checksum=0)
+        for damaged in (image[:27], image[:55], image + b"\0", build.with_bytes(image, 52, b"\x10")):
+            verdict = sparse.judge(damaged, 12)
+            self.assertIsInstance(verdict, Refusal)
+            self.assertEqual(sparse.judge(build.stating(damaged, 0xFFFFFFFF), 12), verdict)
+
+    def test_no_checksum_is_worked_out(self) -> None:
+        with unittest.mock.patch("sparse.image_checksum", side_effect=AssertionError):
+            self.assertEqual(sparse.judge(P8, 12), Accepted(1, 2))
+            self.assertRaises(AssertionError, sparse.judge, P2, 12)
 
 
 class TestWideNumbers(unittest.TestCase):
@@ -297,7 +379,7 @@ class TestMistakes(unittest.TestCase):
         self.assertEqual(store.store(image, OLD), (Accepted(1, 2), OLD[:4] + b"abcd" + OLD[8:]))
 
     def test_wrong_checksum_stores_nothing(self) -> None:
-        image = build.with_bytes(P2, 24, bytes(4))
+        image = build.two_chunks(checksum=1)
         self.assertEqual(store.store(image, OLD), (Refusal(11, 24), OLD))
 
     def test_fault_in_a_later_chunk_stores_nothing(self) -> None:
@@ -447,6 +529,17 @@ class TestWriter(unittest.TestCase):
             verdict, after = store.store(image, partition)
             self.assertEqual(verdict, Accepted(len(flat) // block_size, 0))
             self.assertEqual(after, flat + partition[len(flat):])
+
+    def test_a_true_checksum_of_0(self) -> None:
+        """02, CR 2: "Our writer goes on stating the true one"."""
+        for block_size, _, flat in cases_write.zero_sum_cases() + [cases_write.Case(4, 0, b"")]:
+            self.assertEqual(crc.checksum(flat), 0)
+            image = writer.image_of(flat, block_size)
+            self.assertEqual(sparse.read_header(image).checksum, 0)
+            old = b"\x5C" * (len(flat) + 3)
+            verdict = Accepted(len(flat) // block_size, 0)
+            self.assertEqual(store.store(image, old), (verdict, flat + old[len(flat):]))
+            self.assertEqual(store.store(build.stating(image, 1), old), (Refusal(11, 24), old))
 
 
 class TestBoot(unittest.TestCase):
@@ -645,6 +738,10 @@ class TestLister(unittest.TestCase):
             lister.listing(P2),
             "block 4 total 3 chunks 2\n0 fill 1\n1 skip 2\nok written 1 skipped 2\n",
         )
+
+    def test_checksums(self) -> None:
+        self.assertEqual(lister.listing(P8), lister.listing(P2))
+        self.assertEqual(lister.listing(build.two_chunks(checksum=1)), "refused 11 at 24\n")
 
     def test_others(self) -> None:
         self.assertEqual(lister.listing(P2 + b"\0"), "refused 10 at 56\n")

@@ -6,6 +6,7 @@ import tempfile
 import unittest
 from typing import Callable, Dict, Iterator, List, Tuple
 
+import build
 import cases_boot
 import cases_common
 import cases_slots
@@ -82,12 +83,18 @@ def boot_lines(data: bytes) -> Lines:
         yield cases_boot.values(image)
 
 
-def sparse_lines(data: bytes) -> Lines:
+def sparse_cases(data: bytes) -> Iterator[Tuple[bytes, int]]:
+    """Each image and the length of its partition."""
     at = 0
     while at < len(data):
         (partition_length,) = struct.unpack_from("<Q", data, at)
         image, at = cases_common.image_from_patches(data, at + 8)
         assert len(image) <= LARGEST_IMAGE
+        yield image, partition_length
+
+
+def sparse_lines(data: bytes) -> Lines:
+    for image, partition_length in sparse_cases(data):
         yield verdict_values(sparse.judge(image, partition_length))
 
 
@@ -224,6 +231,19 @@ class TestVectors(unittest.TestCase):
         for path, data in self.made.items():
             if path != "stdout":
                 self.assertLessEqual(len(data), vectors.LARGEST_FILE)
+
+    def test_checksums_of_0_and_1(self) -> None:
+        """Images that are accepted with checksum 0 stand in the vectors with 1 too."""
+        data = self.made[os.path.join("data", "sparse.bin")]
+        verdicts = {image: sparse.judge(image, room) for image, room in sparse_cases(data)}
+        refused = sparse.Refusal(11, sparse.CHECKSUM_AT)
+        found = [
+            image for image, verdict in verdicts.items()
+            if build.stating(image, 0) == image and isinstance(verdict, sparse.Accepted)
+            and verdicts.get(build.stating(image, 1)) == refused
+        ]
+        self.assertIn(build.two_chunks(checksum=0), found)
+        self.assertGreater(len(found), 30)
 
     def test_patches_give_the_image(self) -> None:
         images = (b"", bytes(9), b"\x01", bytes(8) + b"\x01" + bytes(9) + b"\x02\0")

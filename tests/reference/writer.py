@@ -1,4 +1,5 @@
-"""Writing a sparse image from flat bytes: document 01, "Writing from flat bytes"."""
+"""Writing a sparse image from flat bytes: document 01, "Writing from flat bytes", and
+document 02, change request 2: "Our writer goes on stating the true one"."""
 
 import struct
 from typing import List, NamedTuple, Optional, Tuple
@@ -57,7 +58,7 @@ def chunk_bytes(run: Run, block_size: int) -> bytes:
 
 def header_bytes(flat: bytes, block_size: int, chunks: int) -> bytes:
     """01: "Header sizes are 28 and 12, version 1.0"; all blocks are written, so the
-    checksum is that of the flat bytes."""
+    checksum is that of the flat bytes, be it 0 or not."""
     return struct.pack(
         "<IHHHHIIII",
         sparse.MAGIC,

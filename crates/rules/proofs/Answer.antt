@@ -1,7 +1,7 @@
 -- Laws of answers: what a number that is 0 or not makes of one, and that its cases differ.
 -- Assumes nothing.
 use mathlib.Core.Path.{_≡_, refl, ap}
-use Prim.Native.Nat.{ℕ, zero, suc, _<_}
+use Prim.Native.Nat.{ℕ, zero, suc, _≤_, _<_}
 use native.Mathlib.Nat.{zero-lt-suc}
 use native.Mathlib.Omega.{arith}
 use Rattle.rules.specs.Answer.{Answer, accepted, refused, unless, onward, numberOf, placeOf, HasNumber}
@@ -53,3 +53,13 @@ onward-number (refused n place) go h f = h
 pub has-number : {A : Type 0} (a : Answer A) → ((n place : ℕ) → a ≡ refused n place → 0 < n) → HasNumber a
 has-number (accepted x) h = tt
 has-number (refused n place) h = h n place refl
+
+-- ---- refusals whose numbers do not pass one
+
+pub unless-most : {A : Type 0} (n place m : ℕ) (a : Answer A) → n ≤ m → numberOf a ≤ m → numberOf (unless n place a) ≤ m
+unless-most zero place m a h i = i
+unless-most (suc n) place m a h i = h
+
+pub onward-most : {A B : Type 0} (m : ℕ) (a : Answer A) (go : A → Answer B) → numberOf a ≤ m → ((x : A) → numberOf (go x) ≤ m) → numberOf (onward a go) ≤ m
+onward-most m (accepted x) go h f = f x
+onward-most m (refused n place) go h f = h

@@ -1,11 +1,11 @@
 -- A list of tests none of which applies, and two tests in one.
 -- Assumes nothing.
 use mathlib.Core.Path.{_≡_, refl, sym}
-use mathlib.Core.Bool.{Bool, true, false, _&&_, _||_}
+use mathlib.Core.Bool.{Bool, true, false, cond, _&&_, _||_}
 use mathlib.Core.List.{List, [], _∷_}
-use Prim.Native.Nat.{ℕ}
+use Prim.Native.Nat.{ℕ, _≤_, zero-le}
 use native.Mathlib.Omega.{arith}
-use lib.Dec.{T, ltb, ltb→lt}
+use lib.Dec.{T, leb, ltb, leb→le, ltb→lt}
 use Rattle.rules.specs.First.{first}
 use Rattle.rules.proofs.First.{first-none, first-rest}
 
@@ -25,6 +25,20 @@ all-fail [] n e = tt
 all-fail (t ∷ ts) n e =
     let p = ltb→lt 0 (t .1) (n .0) in
     (first-none (t .0) (t .1) ts p e, all-fail ts (n .1) (first-rest (t .0) (t .1) ts p e))
+
+-- each test of a list has a number up to one
+abbrev pub NumberedTo : ℕ → List (Bool × ℕ) → Type 0
+NumberedTo m [] = Unit {0}
+NumberedTo m (t ∷ ts) = T (leb (t .1) m) × NumberedTo m ts
+
+-- and so has the first that applies
+pub first-most : (m : ℕ) (ts : List (Bool × ℕ)) → NumberedTo m ts → first ts ≤ m
+first-most m [] n = zero-le
+first-most m (t ∷ ts) n = go (t .0) (first-most m ts (n .1))
+  where
+    go : (b : Bool) → first ts ≤ m → cond b (t .1) (first ts) ≤ m
+    go true h = leb→le (t .1) m (n .0)
+    go false h = h
 
 -- both of two tests that hold together
 pub both : (a b : Bool) → (a && b) ≡ true → (a ≡ true) × (b ≡ true)

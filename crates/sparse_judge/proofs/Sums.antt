@@ -20,7 +20,7 @@ use Rattle.rules.specs.First.{first}
 use Rattle.sparse_rules.specs.Header.{headerOf, blockSize, statedChecksum}
 use Rattle.sparse_rules.specs.Judge.{sumTests, structure}
 use Rattle.sparse_rules.proofs.Image.{structure-walk}
-use Rattle.sparse_rules.proofs.Facts.{chunk-facts, sum-refused, sum-passed}
+use Rattle.sparse_rules.proofs.Facts.{chunk-facts, sum-none, sum-refused, sum-passed}
 use Rattle.crc32_rules.proofs.Laws.{crc-nil}
 use Rattle.sparse_judge.specs.declared.sum.Sum.{Sum}
 use Rattle.sparse_judge.specs.Pending.{stateOf}
@@ -40,6 +40,15 @@ Summing s h n c state = (ks : List Chunk) → structure s (length s) ≡ accepte
 
 pub summing-start : (s : List ℕ) (h : Header) (state : ℕ) → h ≡ headerOf s → state ≡ allOnes → Summing s h (h .chunks) (origin h) state
 summing-start s h state g z ks e = record { chunks = ks; walked = structure-walk s (length s) h g ∙ e; sum = rw z (sum-finish s (h .block) ks) }
+
+-- the checksum that the header states
+stated-is : (s : List ℕ) (h : Header) → h ≡ headerOf s → h .checksum ≡ statedChecksum s
+stated-is s h g = ap (λ (y : Header). y .checksum) g
+
+-- none is stated
+pub none-is-stated : (s : List ℕ) (h : Header) (ks : List Chunk) → h ≡ headerOf s → (w m : ℕ) → h .checksum ≡ 0
+    → counts w m ≡ unless (first (sumTests s ks)) 24 (counts w m)
+none-is-stated s h ks g w m z = rw (sum-none s ks (sym (stated-is s h g) ∙ z))
 
 module _ (s : List ℕ) (h : Header) (n : ℕ) (c : Cursor) (state : ℕ) (i : Summing s h n c state) where
   -- a chunk that is read
@@ -78,16 +87,13 @@ module _ (s : List ℕ) (h : Header) (n : ℕ) (c : Cursor) (state : ℕ) (i : S
       true-sum : checksumOf s (blockSize s) ks ≡ x
       true-sum = ap (λ (y : Header). checksumOf s (y .block) ks) (sym g) ∙ summing-done
 
-      stated : h .checksum ≡ statedChecksum s
-      stated = ap (λ (y : Header). y .checksum) g
-
       -- the checksum differs from the stated one
-      pub summing-differs : (x ≡ h .checksum → ⊥) → refused 11 24 ≡ unless (first (sumTests s ks)) 24 (counts w m)
-      summing-differs d = rw (sum-refused s ks (λ e. d (sym true-sum ∙ e ∙ sym stated)))
+      pub summing-differs : (h .checksum ≡ 0 → ⊥) → (x ≡ h .checksum → ⊥) → refused 11 24 ≡ unless (first (sumTests s ks)) 24 (counts w m)
+      summing-differs o d = rw (sum-refused s ks (λ e. o (stated-is s h g ∙ e)) (λ e. d (sym true-sum ∙ e ∙ sym (stated-is s h g))))
 
       -- it is the stated one
       pub summing-agrees : x ≡ h .checksum → counts w m ≡ unless (first (sumTests s ks)) 24 (counts w m)
-      summing-agrees d = rw (sum-passed s ks (true-sum ∙ d ∙ stated))
+      summing-agrees d = rw (sum-passed s ks (true-sum ∙ d ∙ stated-is s h g))
 
 -- ---- zeros that wait
 

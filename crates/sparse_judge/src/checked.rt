@@ -1,4 +1,4 @@
-// The second walk: the checksum of an image whose structure holds.
+// The second walk: the checksum of an image whose structure holds. Where none is stated it is not made.
 ghost use mathlib.Core.Path.{_≡_};
 ghost use mathlib.Core.List.{List};
 ghost use Prim.Native.Nat.{_≤_, _%_};
@@ -21,12 +21,15 @@ use sparse_rules::Verdict;
 use sparse_structure::refuse;
 
 // The answer to an image whose structure holds, with so many blocks written and skipped: accepted
-// where its checksum passes its test, and else refused.
+// where it states no checksum or the true one, and else refused.
 pub(crate) fn checked(image: &[u8], header: Header, written: u32, skipped: u32) -> Verdict
     requires { ⌜ (header ≡ headerOf (now image)) × (header .block ≤ 65536) × (header .block % 4 ≡ 0) ⌝ }
     ensures { λ r. ⌜ ((ks : List Chunk) → structure (now (image .entry)) (length (now (image .entry))) ≡ accepted ks
         → answerOf r ≡ unless (first (sumTests (now (image .entry)) ks)) 24 (counts written skipped)) ⌝ }
 {
+    if header.checksum == 0 {
+        return Verdict::Accepted(written, skipped);
+    }
     let mut cursor = Cursor {
         at: header.start as usize,
         first: 0,

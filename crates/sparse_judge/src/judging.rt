@@ -10,7 +10,8 @@ use sparse_structure::refuse;
 use sparse_structure::structure;
 
 // Whether an image is accepted for a partition of so many bytes, with blocks written and blocks
-// skipped, or its first refusal with its place. Raw data are read last, each byte once.
+// skipped, or its first refusal with its place. Raw data are read last, each byte once, and not at
+// all where no checksum is stated.
 pub fn judge(image: &[u8], partition_len: u64) -> Verdict
     ensures { λ r. ⌜ answerOf r ≡ answer (now (image .entry)) (length (now (image .entry))) «partition_len» ⌝ }
 {

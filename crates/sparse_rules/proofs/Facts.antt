@@ -1,7 +1,7 @@
 -- What a header that passes, a chunk that is read, and an image that is accepted are known by; and the judge's cases.
 -- Assumes nothing.
 use mathlib.Core.Path.{_≡_, refl, sym, ap, subst, _∙_}
-use mathlib.Core.Bool.{true, false, _&&_}
+use mathlib.Core.Bool.{Bool, true, false, not, cond, _&&_}
 use mathlib.Core.List.{List}
 use Prim.Native.Nat.{ℕ, _+_, _*_, _%_, _≤_, _<_}
 use native.Mathlib.Omega.{arith}
@@ -18,9 +18,9 @@ use Rattle.sparse_rules.specs.Chunks.{typeAt, blocksAt, sizeAt, kindOf, 
 use Rattle.rules.specs.Answer.{refused, accepted, unless}
 use Rattle.sparse_rules.specs.Walk.{Finding}
 use Rattle.sparse_rules.specs.Cells.{writes, checksumOf}
-use Rattle.sparse_rules.specs.Judge.{sumTests, summed, structure, judged}
+use Rattle.sparse_rules.specs.Judge.{sumStated, sumDiffers, sumTests, summed, structure, judged}
 use Rattle.sparse_rules.specs.Facts.{HeaderFacts, dataBytes, ChunkFacts, AcceptedFacts}
-use Rattle.rules.proofs.Tests.{all-fail, both}
+use Rattle.rules.proofs.Tests.{all-fail, both, and-rest}
 use Rattle.rules.proofs.Answer.{unless-accepted, unless-passed, unless-refused, accepted-same}
 
 -- ---- the header
@@ -148,16 +148,49 @@ module _ (s : List ℕ) (len : ℕ) (h : Header) (c : Cursor) where
 
 -- ---- the checksum's test
 
-module _ (s : List ℕ) (ks : List Chunk) where
-  -- 11: a checksum that differs from the stated one
-  pub sum-refused : (checksumOf s (blockSize s) ks ≡ statedChecksum s → ⊥) → first (sumTests s ks) ≡ 11
-  unfolding sumTests
-  sum-refused d = rw (ne-eqb (checksumOf s (blockSize s) ks) (statedChecksum s) d)
+module _ (sum stated : ℕ) where
+  -- none is stated, so none differs
+  pub differs-none : stated ≡ 0 → sumDiffers sum stated ≡ false
+  differs-none e = rw (eq-eqb stated 0 e)
 
-  -- one that is the stated one passes
-  pub sum-passed : checksumOf s (blockSize s) ks ≡ statedChecksum s → first (sumTests s ks) ≡ 0
+  -- one that is stated, and another than the true one
+  pub differs-other : (stated ≡ 0 → ⊥) → (sum ≡ stated → ⊥) → sumDiffers sum stated ≡ true
+  differs-other n d = rw (ne-eqb stated 0 n, ne-eqb sum stated d)
+
+  -- the true one
+  pub differs-same : sum ≡ stated → sumDiffers sum stated ≡ false
+  differs-same e = rw (eq-eqb sum stated e) (never (sumStated stated))
+    where
+      never : (t : Bool) → (t && false) ≡ false
+      never true = refl
+      never false = refl
+
+  -- one that does not differ is 0 or the true one
+  same-stated : sumDiffers sum stated ≡ false → (stated ≡ 0 → ⊥) → sum ≡ stated
+  same-stated e n = eqb-true sum stated (not-false _ (and-rest (sumStated stated) (not (eqb sum stated)) e (rw (ne-eqb stated 0 n))))
+
+module _ (s : List ℕ) (ks : List Chunk) where
+  -- 11 where it differs
+  pub sum-number : first (sumTests s ks) ≡ cond (sumDiffers (checksumOf s (blockSize s) ks) (statedChecksum s)) 11 0
   unfolding sumTests
-  sum-passed d = rw (eq-eqb (checksumOf s (blockSize s) ks) (statedChecksum s) d)
+  sum-number = refl
+
+  -- no checksum is stated
+  pub sum-none : statedChecksum s ≡ 0 → first (sumTests s ks) ≡ 0
+  sum-none e = sum-number ∙ rw (differs-none (checksumOf s (blockSize s) ks) (statedChecksum s) e)
+
+  -- 11: another than the true one is stated
+  pub sum-refused : (statedChecksum s ≡ 0 → ⊥) → (checksumOf s (blockSize s) ks ≡ statedChecksum s → ⊥) → first (sumTests s ks) ≡ 11
+  sum-refused n d = sum-number ∙ rw (differs-other (checksumOf s (blockSize s) ks) (statedChecksum s) n d)
+
+  -- the true one passes, also where it is 0
+  pub sum-passed : checksumOf s (blockSize s) ks ≡ statedChecksum s → first (sumTests s ks) ≡ 0
+  sum-passed d = sum-number ∙ rw (differs-same (checksumOf s (blockSize s) ks) (statedChecksum s) d)
+
+  -- and what passes is 0 or the true one
+  sum-stated : first (sumTests s ks) ≡ 0 → (statedChecksum s ≡ 0 → ⊥) → checksumOf s (blockSize s) ks ≡ statedChecksum s
+  unfolding sumTests
+  sum-stated e = same-stated (checksumOf s (blockSize s) ks) (statedChecksum s) (all-fail (sumTests s ks) (tt, tt) e .0)
 
 -- ---- the judge
 
@@ -199,4 +232,4 @@ module _ (s : List ℕ) (len : ℕ) where
   unfolding judged
   accepted-facts room ks e =
       let f = summed-accepted (structure s len) ks (unless-accepted (first (headerTests s len room)) 0 (summed s (structure s len)) ks e .1) in
-      record { header = header-facts s len room (header-passed room ks e); chunks = f .0; checksum = f .1 }
+      record { header = header-facts s len room (header-passed room ks e); chunks = f .0; tested = f .1; checksum = sum-stated s ks (f .1) }

@@ -1,4 +1,4 @@
--- What an accepted image adds up to, and that a longer partition changes nothing of it.
+-- What an accepted image adds up to, that a longer partition changes nothing of it, what the checksum decides, and refusal numbers.
 -- Assumes nothing.
 use mathlib.Core.Path.{_≡_, refl, sym, ap, _∙_}
 use mathlib.Core.List.{List, [], _∷_}
@@ -12,18 +12,18 @@ use Rattle.rules.specs.First.{first}
 use Rattle.sparse_rules.specs.declared.Header.{Header}
 use Rattle.sparse_rules.specs.declared.Cursor.{Cursor}
 use Rattle.sparse_rules.specs.declared.Chunk.{Chunk}
-use Rattle.sparse_rules.specs.Header.{headerOf, headerTests, blockSize, totalBlocks, totalChunks}
-use Rattle.rules.specs.Answer.{accepted, unless, HasNumber}
-use Rattle.rules.proofs.Answer.{unless-number, onward-number}
+use Rattle.sparse_rules.specs.Header.{headerOf, headerTests, blockSize, totalBlocks, totalChunks, statedChecksum}
+use Rattle.rules.specs.Answer.{accepted, unless, numberOf, HasNumber}
+use Rattle.rules.proofs.Answer.{unless-number, onward-number, unless-most, onward-most}
 use Rattle.sparse_rules.specs.Walk.{more, endTests, walk, origin}
 use Rattle.sparse_rules.specs.Chunks.{chunkTests, chunk, chunkAt, nextCursor, reading}
 use Rattle.sparse_rules.specs.Cells.{written, skipped}
 use Rattle.sparse_rules.specs.Judge.{sumTests, summed, structure, judged, effect, effectOf}
 use Rattle.sparse_rules.specs.Answers.{counts, answer, answerFor}
-use Rattle.sparse_rules.specs.Theorems.{Sums, Unmoved, RefusalNumbers}
-use Rattle.rules.proofs.Tests.{all-fail}
+use Rattle.sparse_rules.specs.Theorems.{Sums, Unmoved, Checksums, NoneStated, RefusalNumbers}
+use Rattle.rules.proofs.Tests.{all-fail, first-most}
 use Rattle.sparse_rules.proofs.Walk.{stepped, ended}
-use Rattle.sparse_rules.proofs.Facts.{chunk-facts, header-passed, judged-accepted, accepted-facts}
+use Rattle.sparse_rules.proofs.Facts.{chunk-facts, sum-none, sum-refused, sum-passed, header-passed, judged-sum, judged-accepted, accepted-facts}
 use Rattle.sparse_rules.proofs.Cells.{written-nil, skipped-nil, blocks-cons, length-cells, count-cells}
 
 -- the chunks of an accepted walk span the blocks from the cursor's to the total
@@ -65,7 +65,7 @@ module _ (s : List ℕ) (len : ℕ) (ks : List Chunk) where
   pub judged-more : (room more : ℕ) → room ≤ more → judged s len room ≡ accepted ks → judged s len more ≡ accepted ks
   judged-more room more h e =
       let a = accepted-facts s len room ks e in
-      judged-accepted s len more (passed-more room more h (header-passed s len room ks e)) ks (a .chunks) (a .checksum)
+      judged-accepted s len more (passed-more room more h (header-passed s len room ks e)) ks (a .chunks) (a .tested)
 
 -- an accepted image has the same chunks, counts and effect for every partition with more room
 pub unmoved : Unmoved
@@ -73,6 +73,47 @@ unfolding answer effect
 unmoved s room more ks h e =
     let same : judged s (length s) more ≡ judged s (length s) room = judged-more s (length s) ks room more h e ∙ sym e in
     record { finding = same; counted = ap answerFor same; given = ap (effectOf s) same }
+
+-- ---- the checksum
+
+-- what the checksum decides
+pub checksums : Checksums
+checksums s len room ks passed e =
+    record {
+      none = λ z. judged-accepted s len room passed ks e (sum-none s ks z);
+      differs = λ n d. judged-sum s len room passed ks e ∙ rw (sum-refused s ks n d);
+      agrees = λ d. judged-accepted s len room passed ks e (sum-passed s ks d);
+    }
+
+-- a chunk is refused by a number up to 10
+reading-most : (s : List ℕ) (len : ℕ) (h : Header) (c : Cursor) → numberOf (reading s len h c) ≤ 10
+unfolding reading chunkTests
+reading-most s len h c =
+    unless-most (first (chunkTests s len h c)) (c .at) 10 (chunk (chunkAt s h c) (nextCursor s c))
+    (first-most 10 (chunkTests s len h c) (tt, (tt, (tt, (tt, tt))))) zero-le
+
+-- and so is a structure
+walk-most : (s : List ℕ) (len : ℕ) (h : Header) (n : ℕ) (c : Cursor) → numberOf (walk s len h n c) ≤ 10
+unfolding walk endTests
+walk-most s len h zero c =
+    unless-most (first (endTests len h c)) (c .at) 10 (accepted []) (first-most 10 (endTests len h c) (tt, (tt, tt))) zero-le
+walk-most s len h (suc n) c =
+    onward-most 10 (reading s len h c) (λ r. more (r .0) (walk s len h n (r .1))) (reading-most s len h c)
+    (λ r. onward-most 10 (walk s len h n (r .1)) (λ ks. accepted (r .0 ∷ ks)) (walk-most s len h n (r .1)) (λ ks. zero-le))
+
+-- and an image that states no checksum
+stated-most : (s : List ℕ) (len room : ℕ) → statedChecksum s ≡ 0 → numberOf (judged s len room) ≤ 10
+unfolding judged summed structure headerTests
+stated-most s len room z =
+    unless-most (first (headerTests s len room)) 0 10 (summed s (structure s len))
+    (first-most 10 (headerTests s len room) (tt, (tt, (tt, (tt, (tt, (tt, tt)))))))
+    (onward-most 10 (structure s len) (λ ks. unless (first (sumTests s ks)) 24 (accepted ks))
+    (walk-most s len (headerOf s) (totalChunks s) (origin (headerOf s)))
+    (λ ks. unless-most (first (sumTests s ks)) 24 10 (accepted ks) (rw (sum-none s ks z) zero-le) zero-le))
+
+-- so 11 cannot come
+pub none-stated : NoneStated
+none-stated s len room place z e = let m : 11 ≤ 10 = rw e at (stated-most s len room z) in omega arith
 
 -- ---- refusal numbers
 

@@ -10,9 +10,10 @@ use Rattle.sparse_rules.specs.declared.Cursor.{Cursor}
 use Rattle.sparse_rules.specs.declared.Kind.{Kind}
 use Rattle.sparse_rules.specs.declared.Kind.the-variants.{Raw, Fill, DontCare, Unknown}
 use Rattle.sparse_rules.specs.declared.Chunk.{Chunk}
-use Rattle.sparse_rules.specs.Header.{headerOf}
+use Rattle.sparse_rules.specs.Header.{headerOf, blockSize, statedChecksum}
 use Rattle.sparse_rules.specs.Chunks.{chunkAt, nextCursor}
 use Rattle.rules.specs.Answer.{accepted}
+use Rattle.sparse_rules.specs.Cells.{checksumOf}
 use Rattle.sparse_rules.specs.Judge.{sumTests, structure}
 
 -- a header that passes refusals 1 to 6, of an input of so many bytes for a partition with so much room
@@ -75,8 +76,10 @@ pub record AcceptedFacts (s : List ℕ) (len room : ℕ) (ks : List Chunk) : Typ
   pub header : HeaderFacts (headerOf s) len room
   -- its structure holds, and has these chunks
   pub chunks : structure s len ≡ accepted ks
-  -- and its checksum passes its test
-  pub checksum : first (sumTests s ks) ≡ 0
+  -- it passes the checksum's test
+  pub tested : first (sumTests s ks) ≡ 0
+  -- so the checksum that it states, unless that is 0, is the true one
+  pub checksum : (statedChecksum s ≡ 0 → ⊥) → checksumOf s (blockSize s) ks ≡ statedChecksum s
 
 -- a chunk whose cells the checksum can go over, at a block size
 pub record Summable (s : List ℕ) (b : ℕ) (k : Chunk) : Type 0 where

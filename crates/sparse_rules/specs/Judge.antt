@@ -1,6 +1,6 @@
 -- What the judge finds of an image.
 -- Assumes nothing.
-use mathlib.Core.Bool.{Bool, not}
+use mathlib.Core.Bool.{Bool, not, _&&_}
 use mathlib.Core.Option.{Option}
 use mathlib.Core.List.{List, [], _∷_}
 use Prim.Native.Nat.{ℕ}
@@ -13,9 +13,13 @@ use Rattle.sparse_rules.specs.Walk.{Finding, walk, origin}
 use Rattle.rules.specs.Answer.{refused, accepted, unless, onward}
 use Rattle.sparse_rules.specs.Cells.{cells, checksumOf}
 
--- the checksum "must equal the header field"
+-- 02, request 2: "0 means that none is stated"
+abbrev pub sumStated : ℕ → Bool
+sumStated stated = not (eqb stated 0)
+
+-- a checksum that is stated "must equal the header field"
 abbrev pub sumDiffers : ℕ → ℕ → Bool
-sumDiffers sum stated = not (eqb sum stated)
+sumDiffers sum stated = sumStated stated && not (eqb sum stated)
 
 -- refusal 11
 unfoldable pub sumTests : List ℕ → List Chunk → List (Bool × ℕ)

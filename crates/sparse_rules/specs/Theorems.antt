@@ -1,17 +1,19 @@
--- Theorems about images: what an accepted one adds up to, that more room changes nothing, and that every refusal has a number.
+-- Theorems about images: what an accepted one adds up to, that more room changes nothing, what the checksum decides, and that
+-- every refusal has a number.
 -- Assumes nothing.
 use mathlib.Core.Path.{_≡_}
 use mathlib.Core.List.{List}
 use Prim.Native.Nat.{ℕ, _+_, _*_, _≤_}
 use lib.ListN.{length}
-use Rattle.rules.specs.Answer.{accepted, HasNumber}
+use Rattle.rules.specs.First.{first}
+use Rattle.rules.specs.Answer.{accepted, refused, HasNumber}
 use Rattle.sparse_rules.specs.declared.Header.{Header}
 use Rattle.sparse_rules.specs.declared.Cursor.{Cursor}
 use Rattle.sparse_rules.specs.declared.Chunk.{Chunk}
-use Rattle.sparse_rules.specs.Header.{blockSize, totalBlocks}
+use Rattle.sparse_rules.specs.Header.{blockSize, totalBlocks, statedChecksum, headerTests}
 use Rattle.sparse_rules.specs.Chunks.{reading}
-use Rattle.sparse_rules.specs.Cells.{count, cells, written, skipped}
-use Rattle.sparse_rules.specs.Judge.{judged, effect}
+use Rattle.sparse_rules.specs.Cells.{count, cells, checksumOf, written, skipped}
+use Rattle.sparse_rules.specs.Judge.{structure, judged, effect}
 use Rattle.sparse_rules.specs.Answers.{answer}
 
 -- what the chunks of an accepted image add up to, for a partition with so much room
@@ -41,6 +43,24 @@ pub record Same (s : List ℕ) (room more : ℕ) : Type 0 where
 -- "It depends on the image alone, never on the partition": every accepted image is the same wherever there is more room
 abbrev pub Unmoved : Type 0
 Unmoved = (s : List ℕ) (room more : ℕ) (ks : List Chunk) → room ≤ more → judged s (length s) room ≡ accepted ks → Same s room more
+
+-- what the checksum decides of an image whose header passes its tests and whose structure holds with these chunks
+pub record Checked (s : List ℕ) (len room : ℕ) (ks : List Chunk) : Type 0 where
+  -- "0 means that none is stated"
+  pub none : statedChecksum s ≡ 0 → judged s len room ≡ accepted ks
+  -- any other must be the true one
+  pub differs : (statedChecksum s ≡ 0 → ⊥) → (checksumOf s (blockSize s) ks ≡ statedChecksum s → ⊥) → judged s len room ≡ refused 11 24
+  -- which is accepted
+  pub agrees : checksumOf s (blockSize s) ks ≡ statedChecksum s → judged s len room ≡ accepted ks
+
+-- of every such image
+abbrev pub Checksums : Type 0
+Checksums = (s : List ℕ) (len room : ℕ) (ks : List Chunk) → first (headerTests s len room) ≡ 0 → structure s len ≡ accepted ks
+    → Checked s len room ks
+
+-- whatever else is wrong with an image that states 0, refusal 11 cannot come
+abbrev pub NoneStated : Type 0
+NoneStated = (s : List ℕ) (len room place : ℕ) → statedChecksum s ≡ 0 → judged s len room ≡ refused 11 place → ⊥
 
 -- no refusal has the number 0
 pub record RefusalNumbers : Type 0 where

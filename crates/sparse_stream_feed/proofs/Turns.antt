@@ -9,12 +9,11 @@ use lib.Dec.{leb, ltb, eqb}
 use lib.ListN.{length, getD, take, drop, length-drop}
 use lib.Seq.{sets, drop-cons, length-take-le}
 use borrow.Author.Tests.{ltb-true, ltb-false, lt-ltb, le-ltb, leb-true, eqb-true, eqb-false, eq-eqb}
-use Rattle.crc32_rules.specs.Crc.{crcFrom}
 use Rattle.sparse_rules.specs.declared.Kind.{Kind}
 use Rattle.sparse_rules.specs.declared.Kind.the-variants.{Raw, Fill, DontCare, Unknown}
 use Rattle.sparse_stream_rules.specs.declared.Pass.{Pass}
-use Rattle.sparse_stream_rules.specs.State.{kindNow, dataBy, gap, inData, moved, keeping}
-use Rattle.sparse_stream_rules.specs.Steps.{settled, headed, gathered, chunkTaken, worded, fed}
+use Rattle.sparse_stream_rules.specs.State.{headOf, kindNow, dataBy, gap, inData, moved, keeping}
+use Rattle.sparse_stream_rules.specs.Steps.{sumOn, settled, headed, gathered, chunkTaken, worded, fed}
 use Rattle.sparse_stream_rules.specs.Laid.{fillLaid, dataLaid, laidBy, stores}
 use Rattle.sparse_stream_lay.specs.Laid.{stretchLaid}
 use Rattle.sparse_stream_lay.specs.Laid as laid
@@ -220,13 +219,13 @@ module _ (x : Pass) (piece : List ℕ) (i m : ℕ) (t : Turn x piece i m) where
           ∙ sym (ap (fed x) (w .is) ∙ fed-pass x (getD piece i 0) (w .bs) (t .free) known (omega (arith, w .size)))
 
       module _ (d : gap x ≤ dat) where
-        pub turn-raw : kind ≡ Raw → settled (moved x m (crcFrom (x .come .sum) (take m (drop i piece)))) ≡ fed x (take m (drop i piece))
+        pub turn-raw : kind ≡ Raw → settled (moved x m (sumOn (headOf x) (x .come .sum) (take m (drop i piece)))) ≡ fed x (take m (drop i piece))
         turn-raw k =
             let q : gap x ≤ dataBy (kindNow x) x = rw now at d in
             let o : kindNow x ≡ Raw = sym ek ∙ k in
             let e : m ≡ min (gap x) (length piece - i) = t .size ∙ stretch-data x _ known h q ∙ rw o in
             let w = part piece i m (turn-some x piece i m t) (turn-inside x piece i m t) in
-            ap₂ (λ (n : ℕ) (r : List ℕ). settled (moved x n (crcFrom (x .come .sum) r))) (sym (w .size)) (w .is)
+            ap₂ (λ (n : ℕ) (r : List ℕ). settled (moved x n (sumOn (headOf x) (x .come .sum) r))) (sym (w .size)) (w .is)
             ∙ sym (ap (fed x) (w .is) ∙ fed-raw x (getD piece i 0) (w .bs) (t .free) known o q (omega (arith, w .size)))
 
         module _ (k : kind ≡ Fill) where

@@ -1,15 +1,14 @@
 // The bytes of a chunk's data: counted in the checksum, those of a fill word kept until it is whole.
 ghost use mathlib.Core.Path.{_≡_};
-ghost use mathlib.Core.Bool.{true};
 ghost use Prim.Native.Nat.{_+_, _≤_, _<_};
 ghost use lib.ListN.{length, take, drop};
-ghost use Rattle.crc32_rules.specs.Crc.{crcFrom};
-ghost use Rattle.sparse_stream_rules.specs.State.{gap, moved};
-ghost use Rattle.sparse_stream_rules.specs.Steps.{fillSum, wordKept, worded};
+ghost use Rattle.sparse_stream_rules.specs.State.{headOf, gap, moved};
+ghost use Rattle.sparse_stream_rules.specs.Steps.{sumOn, wordKept, worded};
 ghost use Rattle.sparse_stream_feed.specs.Stretch.{wordTaken};
 use sparse_stream_rules::Come;
 use sparse_stream_rules::Pass;
-use sparse_stream_state::span_now;
+use sparse_stream_sum::sum_fill;
+use sparse_stream_sum::sum_raw;
 
 // The fill word with one byte more.
 pub(crate) fn keep_word(x: Pass, b: u8) -> Pass
@@ -38,14 +37,6 @@ pub(crate) fn advance(x: Pass, n: usize, sum: u32) -> Pass
     y
 }
 
-// The checksum's state after a fill chunk, whose word has come.
-fn fill_sum(x: Pass) -> u32
-    ensures { λ r. ⌜ r ≡ fillSum true x ⌝ }
-{
-    let word = x.kept.word;
-    crc32::update_word(x.come.sum, fields_read::read32(&word, 0), span_now(x) / 4)
-}
-
 // A byte of a fill word.
 pub(crate) fn take_word(x: Pass, b: u8) -> Pass
     requires { ⌜ (x .come .bytes < x .walk .next .at) × (gap x ≤ 4) × (x .come .bytes < x .told .length) ⌝ }
@@ -53,7 +44,7 @@ pub(crate) fn take_word(x: Pass, b: u8) -> Pass
 {
     let y = keep_word(x, b);
     if x.walk.next.at - x.come.bytes == 1 {
-        return advance(y, 1, fill_sum(y));
+        return advance(y, 1, sum_fill(y));
     }
     advance(y, 1, x.come.sum)
 }
@@ -70,14 +61,14 @@ pub(crate) fn take_fill(x: Pass, piece: &[u8], i: usize) -> Pass
     kept.word = word;
     let mut y = x;
     y.kept = kept;
-    advance(y, 4, fill_sum(y))
+    advance(y, 4, sum_fill(y))
 }
 
 // Raw data.
 pub(crate) fn take_raw(x: Pass, piece: &[u8], i: usize, n: usize) -> Pass
     requires { ⌜ (x .come .bytes + n ≤ x .told .length) × (i + n ≤ length (now piece)) ⌝ }
-    ensures { λ r. ⌜ r ≡ moved x n (crcFrom (x .come .sum) (take n (drop i (now (piece .entry))))) ⌝ }
+    ensures { λ r. ⌜ r ≡ moved x n (sumOn (headOf x) (x .come .sum) (take n (drop i (now (piece .entry))))) ⌝ }
 {
     let end = i + n;
-    advance(x, n, crc32::update(x.come.sum, &piece[i..end]))
+    advance(x, n, sum_raw(x, &piece[i..end]))
 }

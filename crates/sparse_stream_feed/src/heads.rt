@@ -6,7 +6,7 @@ ghost use lib.ListN.{length, take, drop};
 ghost use lib.Seq.{sets};
 ghost use Rattle.sparse_rules.specs.Cells.{writes};
 ghost use Rattle.sparse_stream_rules.specs.State.{headOf, moved, keeping};
-ghost use Rattle.sparse_stream_rules.specs.Steps.{ready, headed, chunkNumber, skipSum, chunkRead, chunkTaken, gathered};
+ghost use Rattle.sparse_stream_rules.specs.Steps.{ready, headed, chunkNumber, chunkRead, chunkTaken, gathered};
 use sparse_rules::Cursor;
 use sparse_rules::Kind;
 use sparse_stream_rules::Come;
@@ -17,7 +17,7 @@ use sparse_stream_state::blocks_now;
 use sparse_stream_state::kind_now;
 use sparse_stream_state::less;
 use sparse_stream_state::size_now;
-use sparse_stream_state::span_now;
+use sparse_stream_sum::sum_head;
 use sparse_stream_tests::chunk_number;
 use sparse_stream_tests::header_number;
 use sparse_stream_tests::refuse;
@@ -90,18 +90,6 @@ fn blocks_written(kind: Kind, blocks: u32) -> u32
     }
 }
 
-// The checksum's state after a chunk's header.
-fn skip_sum(kind: Kind, span: u64, sum: u32) -> u32
-    ensures { λ r. ⌜ r ≡ skipSum (writes kind) span sum ⌝ }
-{
-    match kind {
-        Kind::Raw => sum,
-        Kind::Fill => sum,
-        Kind::DontCare => crc32::update_zeros(sum, span),
-        Kind::Unknown => crc32::update_zeros(sum, span),
-    }
-}
-
 // Past the size and the blocks of a chunk that is not refused, of so many total blocks.
 fn pass_chunk(x: Pass, total: u32) -> Pass
     requires { ⌜ (chunkNumber x ≡ 0) × (total ≡ headOf x .total) ⌝ }
@@ -121,7 +109,7 @@ fn pass_chunk(x: Pass, total: u32) -> Pass
     };
     let come = Come {
         bytes: x.come.bytes,
-        sum: skip_sum(kind, span_now(x), x.come.sum),
+        sum: sum_head(x, kind),
     };
     let mut y = x;
     y.walk = walk;

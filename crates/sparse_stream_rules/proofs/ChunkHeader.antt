@@ -12,8 +12,7 @@ use borrow.Author.Tests.{ltb-false, eqb-true, eqb-false, le-ltb, not-false}
 use Rattle.rules.specs.First.{first}
 use Rattle.rules.proofs.Tests.{all-fail}
 use Rattle.fields_rules.specs.Number.{numberAt}
-use Rattle.crc32_rules.specs.Crc.{crcFrom, allOnes}
-use Rattle.crc32_rules.proofs.Laws.{crc-nil, crc-append}
+use Rattle.crc32_rules.specs.Crc.{allOnes}
 use Rattle.sparse_rules.specs.declared.Header.{Header}
 use Rattle.sparse_rules.specs.declared.Cursor.{Cursor}
 use Rattle.sparse_rules.specs.declared.Kind.{Kind}
@@ -28,12 +27,13 @@ use Rattle.sparse_store_rules.proofs.Over.{laid-kept}
 use Rattle.sparse_stream_rules.specs.declared.Pass.{Pass}
 use Rattle.sparse_stream_rules.specs.Known.{whenTested, moreKnown, knownFrom, dueBy, dueFrom}
 use Rattle.sparse_stream_rules.specs.State.{headOf, kindNow, blocksNow, sizeNow, spanNow, stuck, stopOr}
-use Rattle.sparse_stream_rules.specs.Steps.{settled, skipSum, chunkNumber, chunkRead, chunkTaken, chunkKept, takenIf, gathered, stepped}
+use Rattle.sparse_stream_rules.specs.Steps.{sumOn, settled, skipSum, chunkNumber, chunkRead, chunkTaken, chunkKept, takenIf, gathered, stepped}
 use Rattle.sparse_stream_rules.specs.Laid.{laidBy}
 use Rattle.sparse_stream_rules.proofs.Stretches.{free-before, step-chunk, data-after, lays-none}
 use Rattle.sparse_stream_rules.proofs.Testing.{asTested, from-step}
 use Rattle.fields_rules.proofs.Laws.{number-same}
 use Rattle.sparse_stream_rules.proofs.Due.{raw-early, fill-early, due-one, complete-stays, complete-one, dues-stay}
+use Rattle.sparse_stream_rules.proofs.Sums.{sum-on-nil, sum-on-append}
 use Rattle.sparse_stream_rules.proofs.Standing.{Laying, moreAll, more-one, cursor, chunksKnown, Base, AtHeader, at-header, in-chunk, After, goes, stop-at, settles}
 use Rattle.sparse_stream_rules.proofs.OneByte.{headers, blocks-one, kept-is}
 
@@ -66,12 +66,12 @@ passes-by h len at used k n z e =
     record { right = not-false _ (t .0); inside = ltb-false _ _ (t .1 .0); within = ltb-false _ _ (t .1 .1 .0) }
 
 -- what comes due by a chunk's header
-head-sum : (s : List ℕ) (k : Kind) (at n sum : ℕ) → length s ≤ at → skipSum (writes k) n sum ≡ crcFrom sum (zeroed (dueBy s k at n))
+head-sum : (h : Header) (s : List ℕ) (k : Kind) (at n sum : ℕ) → length s ≤ at → skipSum (writes k) h n sum ≡ sumOn h sum (zeroed (dueBy s k at n))
 unfolding dueBy cellsBy zeroed
-head-sum s Raw at n sum l = rw (raw-early s at n l) (sym (crc-nil sum))
-head-sum s Fill at n sum l = rw (fill-early s at n (omega arith)) (sym (crc-nil sum))
-head-sum s DontCare at n sum l = ap (crcFrom sum) (sym (zeroed-none n))
-head-sum s Unknown at n sum l = ap (crcFrom sum) (sym (zeroed-none n))
+head-sum h s Raw at n sum l = rw (raw-early s at n l) (sym (sum-on-nil h sum))
+head-sum h s Fill at n sum l = rw (fill-early s at n (omega arith)) (sym (sum-on-nil h sum))
+head-sum h s DontCare at n sum l = ap (sumOn h sum) (sym (zeroed-none n))
+head-sum h s Unknown at n sum l = ap (sumOn h sum) (sym (zeroed-none n))
 
 -- nor is any of its cells, unless it is skipped
 head-over : (room : ℕ) (lay : List (Option ℕ) → List ℕ) (n₀ : ℕ) → Laying room lay n₀
@@ -105,7 +105,7 @@ module _ (len room : ℕ) (lay : List (Option ℕ) → List ℕ) (n₀ : ℕ) (h
           blocks = base .blocks;
           within = base .within;
           inside = base .inside;
-          sum = base .sum ∙ ap (λ (r : List (Option ℕ)). crcFrom allOnes (zeroed r)) (sym d);
+          sum = base .sum ∙ ap (λ (r : List (Option ℕ)). sumOn h allOnes (zeroed r)) (sym d);
           part = base .part ∙ ap lay (sym d);
           late = rw d (base .late);
           wide = length-set (x .kept .chunk) (x .come .bytes - x .walk .next .at) b ∙ base .wide;
@@ -191,16 +191,16 @@ module _ (len room : ℕ) (lay : List (Option ℕ) → List ℕ) (n₀ : ℕ) (h
             omega (arith, base .blocks, base .wrote, stored-most k, passes .within) in
             e ∙ omega (arith, m)
 
-        sum-is : skipSum (writes (k .kind)) (spanNow (chunkKept x b)) (x .come .sum) ≡ crcFrom allOnes (zeroed (dueFrom (s ++ (b ∷ [])) (h .block) (ks ++ (k ∷ []))))
+        sum-is : skipSum (writes (k .kind)) (headOf x) (spanNow (chunkKept x b)) (x .come .sum) ≡ sumOn h allOnes (zeroed (dueFrom (s ++ (b ∷ [])) (h .block) (ks ++ (k ∷ []))))
         sum-is =
-            ap (λ (n : ℕ). skipSum (writes (k .kind)) n (x .come .sum)) span-is
-            ∙ head-sum (s ++ (b ∷ [])) (k .kind) (k .body) (k .blocks * h .block) (x .come .sum) body-late
-            ∙ ap (λ (n : ℕ). crcFrom n (zeroed (dueBy (s ++ (b ∷ [])) (k .kind) (k .body) (k .blocks * h .block)))) (kept .sum)
+            ap₂ (λ (o : Header) (n : ℕ). skipSum (writes (k .kind)) o n (x .come .sum)) (base .head) span-is
+            ∙ head-sum h (s ++ (b ∷ [])) (k .kind) (k .body) (k .blocks * h .block) (x .come .sum) body-late
+            ∙ ap (λ (n : ℕ). sumOn h n (zeroed (dueBy (s ++ (b ∷ [])) (k .kind) (k .body) (k .blocks * h .block)))) (kept .sum)
             ∙ sym
-            (crc-append allOnes (zeroed (dueFrom (s ++ (b ∷ [])) (h .block) ks)) (zeroed (dueBy (s ++ (b ∷ [])) (k .kind) (k .body) (k .blocks * h .block))))
-            ∙ ap (crcFrom allOnes)
+            (sum-on-append h allOnes (zeroed (dueFrom (s ++ (b ∷ [])) (h .block) ks)) (zeroed (dueBy (s ++ (b ∷ [])) (k .kind) (k .body) (k .blocks * h .block))))
+            ∙ ap (sumOn h allOnes)
             (sym (zeroed-append (dueFrom (s ++ (b ∷ [])) (h .block) ks) (dueBy (s ++ (b ∷ [])) (k .kind) (k .body) (k .blocks * h .block))))
-            ∙ ap (λ (r : List (Option ℕ)). crcFrom allOnes (zeroed r)) (sym dues)
+            ∙ ap (λ (r : List (Option ℕ)). sumOn h allOnes (zeroed r)) (sym dues)
 
         part-is : q ≡ lay (dueFrom (s ++ (b ∷ [])) (h .block) (ks ++ (k ∷ [])))
         part-is =

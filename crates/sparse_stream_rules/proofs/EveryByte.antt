@@ -13,7 +13,6 @@ use Rattle.rules.specs.First.{first}
 use Rattle.fields_rules.specs.Number.{numberAt}
 use Rattle.fields_rules.proofs.Laws.{number-bound}
 use Rattle.crc32_rules.specs.Crc.{allOnes}
-use Rattle.crc32_rules.proofs.Laws.{crc-nil}
 use Rattle.sparse_rules.specs.declared.Header.{Header}
 use Rattle.sparse_rules.specs.declared.Kind.the-variants.{Unknown}
 use Rattle.sparse_rules.specs.declared.Chunk.{Chunk}
@@ -32,6 +31,7 @@ use Rattle.sparse_stream_rules.specs.Laid.{laidBy, stores}
 use Rattle.sparse_stream_rules.proofs.Stretches.{step-stuck, step-head, lays-stuck, data-not-yet, lays-none}
 use Rattle.sparse_stream_rules.proofs.Testing.{asTested, tested-agree, tested-all, tested-stays, header-agree}
 use Rattle.sparse_rules.proofs.Longer.{header-same, tests-stay}
+use Rattle.sparse_stream_rules.proofs.Sums.{sum-on-nil}
 use Rattle.sparse_stream_rules.proofs.Standing.{Laying, chunksKnown, Base, in-file, at-header, in-chunk, at-end, Stop, After, goes, stops, settles}
 use Rattle.sparse_stream_rules.proofs.OneByte.{headers, kept-is, file-step, chunk-step}
 use Rattle.sparse_stream_rules.proofs.ChunkHeader.{header-step}
@@ -187,7 +187,7 @@ module _ (len room : ℕ) (lay : List (Option ℕ) → List ℕ) (n₀ : ℕ) wh
               blocks = rw (written-nil, skipped-nil, o .first);
               within = rw (o .first) (omega arith);
               inside = omega (arith, start-is, facts .start-inside);
-              sum = o .sum ∙ sym (crc-nil allOnes);
+              sum = o .sum ∙ sym (sum-on-nil h allOnes);
               part = o .part;
               late = o .late;
               wide = ap length (o .chunk);

@@ -1,3 +1,4 @@
+pub mod Sums
 pub mod StateLaws
 pub mod Stretches
 pub mod Taken

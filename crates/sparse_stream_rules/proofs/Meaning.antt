@@ -8,13 +8,13 @@ use Prim.Native.Nat.{ℕ, _+_, _-_, _≤_, _<_}
 use native.Mathlib.Omega.{arith}
 use lib.Dec.{ltb}
 use lib.ListN.{length, replicate}
-use borrow.Author.Tests.{ltb-true, ltb-false, lt-ltb, le-ltb, eq-eqb}
+use borrow.Author.Tests.{ltb-true, ltb-false, lt-ltb, le-ltb}
 use Rattle.rules.specs.First.{first}
 use Rattle.sparse_rules.specs.declared.Header.{Header}
 use Rattle.sparse_rules.specs.declared.Chunk.{Chunk}
-use Rattle.sparse_rules.specs.Header.{headerOf, headerTests, totalChunks, blockSize, statedChecksum}
+use Rattle.sparse_rules.specs.Header.{headerOf, headerTests, totalChunks}
 use Rattle.sparse_rules.specs.Walk.{endTests, origin}
-use Rattle.sparse_rules.specs.Cells.{written, skipped, checksumOf}
+use Rattle.sparse_rules.specs.Cells.{written, skipped}
 use Rattle.sparse_rules.specs.Judge.{sumTests, judged}
 use Rattle.sparse_rules.specs.Answers.{answerFor, answer}
 use Rattle.sparse_rules.proofs.Facts.{header-facts}
@@ -24,7 +24,7 @@ use Rattle.sparse_stream_rules.specs.Steps.{headerNumber, opened}
 use Rattle.sparse_stream_rules.specs.State.{stopOr}
 use Rattle.sparse_stream_rules.specs.States.{begun, answerNow}
 use Rattle.sparse_stream_rules.proofs.Testing.{asTested, AllCome, Decided, must-wait, have-run, decided, from-early, from-header, from-end}
-use Rattle.sparse_stream_rules.proofs.Standing.{moreAll, more-waiting, more-whole, cursor, chunksKnown, Base, AtEnd, Place, in-file, at-header, in-chunk, at-end, After, goes, stops, checksum-is}
+use Rattle.sparse_stream_rules.proofs.Standing.{moreAll, more-waiting, more-whole, cursor, chunksKnown, Base, AtEnd, Place, in-file, at-header, in-chunk, at-end, After, goes, stops, number-is}
 use Rattle.sparse_stream_rules.proofs.EveryByte.{Opening, Total, opening, shut, chunked, known-chunks, tests-run, tested-number}
 use Rattle.sparse_stream_rules.proofs.Found.{findingOf, judged-known}
 
@@ -128,9 +128,9 @@ pub data Says (len room : ℕ) (s : List ℕ) (x : Pass) : Type 0 where
       → skipped ks ≡ x .walk .next .first - x .walk .written → Says len room s x
 
 -- a whole image, by the number of the checksum's test
-summed-whole : (s : List ℕ) (ks : List Chunk) → checksumOf s (blockSize s) ks ≡ statedChecksum s → knownSum s (whole ks) ≡ whole ks
-unfolding knownSum sumTests
-summed-whole s ks e = rw (eq-eqb (checksumOf s (blockSize s) ks) (statedChecksum s) e)
+summed-whole : (s : List ℕ) (ks : List Chunk) → first (sumTests s ks) ≡ 0 → knownSum s (whole ks) ≡ whole ks
+unfolding knownSum
+summed-whole s ks e = rw e
 
 module _ (len room : ℕ) (lay : List (Option ℕ) → List ℕ) (n₀ : ℕ) (x : Pass) (s q : List ℕ) (least : length s ≤ len) where
   module _ (h : Header) (long : 28 ≤ length s) (same : headerOf s ≡ h) (tests : first (headerTests s len room) ≡ 0) (twelve : 12 ≤ h .head) where
@@ -152,8 +152,7 @@ module _ (len room : ℕ) (lay : List (Option ℕ) → List ℕ) (n₀ : ℕ) (x
         rw (i .left)
         (from-end s len h (cursor x) (omega (arith, i .here)) ∙ rw (le-ltb (x .walk .next .first) (h .total) (i .full), le-ltb (x .walk .next .at) len (omega (arith, i .here, i .end))))
         in
-        let c : checksumOf s (blockSize s) ks ≡ statedChecksum s =
-        checksum-is len room lay n₀ h x s q ks b (i .here) (i .complete) ∙ i .checks ∙ sym (ap (λ (o : Header). o .checksum) same) in
+        let c : first (sumTests s ks) ≡ 0 = number-is len room lay n₀ h x s q ks b (i .here) (i .complete) ∙ rw (i .checks) in
         all ∙ ap (knownSum s) (here ks b ∙ ap (moreAll ks) w ∙ more-whole ks) ∙ summed-whole s ks c
 
     says-after : After len room lay n₀ h x s q → Says len room s x

@@ -13,9 +13,8 @@ use lib.Seq.{getD-append-seam, getD-set-same, getD-set-other}
 use borrow.Author.Tests.{ltb-true, ltb-false, eqb-true, eqb-false}
 use Rattle.rules.specs.First.{first}
 use Rattle.fields_rules.specs.Number.{numberAt, bytes}
-use Rattle.crc32_rules.specs.Crc.{crcFrom, allOnes}
+use Rattle.crc32_rules.specs.Crc.{allOnes}
 use Rattle.crc32_rules.specs.Power.{repeated}
-use Rattle.crc32_rules.proofs.Laws.{crc-nil, crc-append}
 use Rattle.sparse_rules.specs.declared.Header.{Header}
 use Rattle.sparse_rules.specs.declared.Kind.{Kind}
 use Rattle.sparse_rules.specs.declared.Kind.the-variants.{Raw, Fill, DontCare, Unknown}
@@ -28,12 +27,13 @@ use Rattle.sparse_rules.proofs.SumLaws.{words}
 use Rattle.sparse_store_rules.specs.Store.{laid}
 use Rattle.sparse_stream_rules.specs.declared.Pass.{Pass}
 use Rattle.sparse_stream_rules.specs.Known.{dueBy, dueFrom}
-use Rattle.sparse_stream_rules.specs.State.{moved, keeping, kindNow, spanNow, endNow, dataBy, gap, stuck}
-use Rattle.sparse_stream_rules.specs.Steps.{settled, carried, worded, stepped}
+use Rattle.sparse_stream_rules.specs.State.{headOf, moved, keeping, kindNow, spanNow, endNow, dataBy, gap, stuck}
+use Rattle.sparse_stream_rules.specs.Steps.{sumOn, settled, carried, worded, stepped}
 use Rattle.sparse_stream_rules.specs.Laid.{laidBy, fillLaid}
 use Rattle.sparse_stream_rules.proofs.Stretches.{free-before, step-data, carried-pass, carried-data, data-before, lays-none, lays-data}
 use Rattle.sparse_rules.proofs.Longer.{header-same}
 use Rattle.sparse_stream_rules.proofs.Due.{raw-early, fill-early, raw-grows, fill-whole, due-one, complete-stays, complete-one, dues-stay, dues-all}
+use Rattle.sparse_stream_rules.proofs.Sums.{sum-on-nil, sum-on-append}
 use Rattle.sparse_stream_rules.proofs.Standing.{Laying, Base, InFile, InChunk, in-file, in-chunk, After, settles}
 
 -- the header of a list that goes on
@@ -109,7 +109,7 @@ module _ (len room : ℕ) (lay : List (Option ℕ) → List ℕ) (n₀ : ℕ) (h
     -- cells that a byte brings
     grown-base : (sum : ℕ) (word q′ : List ℕ) (es : List (Option ℕ)) → length word ≡ 4
         → dueFrom (s ++ (b ∷ [])) (h .block) ks ≡ dueFrom s (h .block) ks ++ es
-        → sum ≡ crcFrom (x .come .sum) (zeroed es)
+        → sum ≡ sumOn h (x .come .sum) (zeroed es)
         → q′ ≡ lay (dueFrom s (h .block) ks ++ es)
         → Base len room lay n₀ h (grown x sum word) (s ++ (b ∷ [])) q′ ks
     grown-base sum word q′ es w d e o =
@@ -127,10 +127,10 @@ module _ (len room : ℕ) (lay : List (Option ℕ) → List ℕ) (n₀ : ℕ) (h
           inside = base .inside;
           sum =
               e
-              ∙ ap (λ (n : ℕ). crcFrom n (zeroed es)) (base .sum)
-              ∙ sym (crc-append allOnes (zeroed (dueFrom s (h .block) ks)) (zeroed es))
-              ∙ ap (crcFrom allOnes) (sym (zeroed-append (dueFrom s (h .block) ks) es))
-              ∙ ap (λ (r : List (Option ℕ)). crcFrom allOnes (zeroed r)) (sym d);
+              ∙ ap (λ (n : ℕ). sumOn h n (zeroed es)) (base .sum)
+              ∙ sym (sum-on-append h allOnes (zeroed (dueFrom s (h .block) ks)) (zeroed es))
+              ∙ ap (sumOn h allOnes) (sym (zeroed-append (dueFrom s (h .block) ks) es))
+              ∙ ap (λ (r : List (Option ℕ)). sumOn h allOnes (zeroed r)) (sym d);
           part = o ∙ ap lay (sym d);
           late = rw d (rw (length-append (dueFrom s (h .block) ks) es) (omega (arith, base .late)));
           wide = base .wide;
@@ -142,7 +142,7 @@ module _ (len room : ℕ) (lay : List (Option ℕ) → List ℕ) (n₀ : ℕ) (h
         → Base len room lay n₀ h (grown x (x .come .sum) word) (s ++ (b ∷ [])) q ks
     unfolding zeroed
     quiet-base word w d =
-        grown-base (x .come .sum) word q [] w (d ∙ sym (append-nil (dueFrom s (h .block) ks))) (sym (crc-nil (x .come .sum)))
+        grown-base (x .come .sum) word q [] w (d ∙ sym (append-nil (dueFrom s (h .block) ks))) (sym (sum-on-nil h (x .come .sum)))
         (base .part ∙ ap lay (sym (append-nil (dueFrom s (h .block) ks))))
 
     free : length s < x .walk .next .at → stuck x ≡ false
@@ -271,9 +271,11 @@ module _ (len room : ℕ) (lay : List (Option ℕ) → List ℕ) (n₀ : ℕ) (h
           lays-data x b q (free l) (omega (arith, base .long)) (omega arith) d ∙ rw now
           (ap₂ (λ (m : ℕ) (r : List ℕ). laid m (some b ∷ []) r) (sym n) (base .part) ∙ sym (law .then (dueFrom s (h .block) ks) (some b ∷ []) (base .late)))
           in
-          let st : stepped x b ≡ settled (grown x (crcFrom (x .come .sum) (b ∷ [])) (x .kept .word)) = to l ∙ carried-data x b d ∙ rw now in
+          let sum : ℕ = sumOn (headOf x) (x .come .sum) (b ∷ []) in
+          let st : stepped x b ≡ settled (grown x sum (x .kept .word)) = to l ∙ carried-data x b d ∙ rw now in
+          let same : sum ≡ sumOn h (x .come .sum) (b ∷ []) = ap (λ (o : Header). sumOn o (x .come .sum) (b ∷ [])) (base .head) in
           rw st
-          (chunk-settles (crcFrom (x .come .sum) (b ∷ [])) (x .kept .word) (laidBy x b q) (grown-base (crcFrom (x .come .sum) (b ∷ [])) (x .kept .word) (laidBy x b q) (some b ∷ []) (base .four) o refl w)
+          (chunk-settles sum (x .kept .word) (laidBy x b q) (grown-base sum (x .kept .word) (laidBy x b q) (some b ∷ []) (base .four) o same w)
           (λ k′ j m r. let z : Raw ≡ Fill = sym e ∙ k′ in cc))
 
       -- a byte of a fill word
@@ -343,9 +345,9 @@ module _ (len room : ℕ) (lay : List (Option ℕ) → List ℕ) (n₀ : ℕ) (h
             let dd : dueFrom (s ++ (b ∷ [])) (h .block) ks ≡ dueFrom s (h .block) ks ++ cellsBy (set (x .kept .word) (4 - gap x) b) Fill 0 span =
             dues-by (cellsBy (set (x .kept .word) (4 - gap x) b) Fill 0 span) (rw e (all ∙ rw none-yet)) in
             let four : 4 * (span / 4) ≡ span = words (i .last .blocks) (h .block) (f .block-fours) in
-            let sums : crcFrom (x .come .sum) (repeated (spanNow x / 4) (bytes 4 (numberAt (set (x .kept .word) (4 - gap x) b) 0 4))) ≡ crcFrom (x .come .sum) (zeroed (cellsBy (set (x .kept .word) (4 - gap x) b) Fill 0 span)) =
-            rw span-is
-            (ap (crcFrom (x .come .sum)) (sym (rw four at (zeroed-fill (set (x .kept .word) (4 - gap x) b) (word-small o) 0 (span / 4)))))
+            let sums : sumOn (headOf x) (x .come .sum) (repeated (spanNow x / 4) (bytes 4 (numberAt (set (x .kept .word) (4 - gap x) b) 0 4))) ≡ sumOn h (x .come .sum) (zeroed (cellsBy (set (x .kept .word) (4 - gap x) b) Fill 0 span)) =
+            rw (base .head, span-is)
+            (ap (sumOn h (x .come .sum)) (sym (rw four at (zeroed-fill (set (x .kept .word) (4 - gap x) b) (word-small o) 0 (span / 4)))))
             in
             let fr : endNow x - spanNow x ≡ from = omega (arith, end-is, span-is) in
             let dl : length (dueFrom s (h .block) ks) ≡ from =
@@ -358,7 +360,7 @@ module _ (len room : ℕ) (lay : List (Option ℕ) → List ℕ) (n₀ : ℕ) (h
             (ap₂ (λ (m n : ℕ). laid m (cellsBy (set (x .kept .word) (4 - gap x) b) Fill 0 n) q) (fr ∙ sym dl) span-is
             ∙ ap (laid (length (dueFrom s (h .block) ks)) (cellsBy (set (x .kept .word) (4 - gap x) b) Fill 0 span)) (base .part)
             ∙ sym (law .then (dueFrom s (h .block) ks) (cellsBy (set (x .kept .word) (4 - gap x) b) Fill 0 span) (base .late))) in
-            let st : stepped x b ≡ settled (grown x (crcFrom (x .come .sum) (repeated (spanNow x / 4) (bytes 4 (numberAt (set (x .kept .word) (4 - gap x) b) 0 4)))) (set (x .kept .word) (4 - gap x) b)) =
+            let st : stepped x b ≡ settled (grown x (sumOn (headOf x) (x .come .sum) (repeated (spanNow x / 4) (bytes 4 (numberAt (set (x .kept .word) (4 - gap x) b) 0 4)))) (set (x .kept .word) (4 - gap x) b)) =
             to (i .before) ∙ carried-data x b d ∙ rw (now, r) in
             rw st
             (chunk-settles _ (set (x .kept .word) (4 - gap x) b) (laidBy x b q)

@@ -1,7 +1,7 @@
 -- What a state stands for: the bytes that have come, once the known fields of the file header have; and arriving at a chunk.
 -- Assumes nothing.
 use mathlib.Core.Path.{_≡_, refl, sym, ap, _∙_}
-use mathlib.Core.Bool.{Bool, true, false}
+use mathlib.Core.Bool.{Bool, true, false, cond}
 use mathlib.Core.Option.{Option, none}
 use mathlib.Core.List.{List, [], _∷_, _++_, append-nil}
 use Prim.Native.Nat.{ℕ, suc, _+_, _-_, _*_, _≤_, _<_}
@@ -9,7 +9,7 @@ use native.Mathlib.Omega.{arith}
 use lib.Bits.{bitXor}
 use lib.Dec.{ltb, eqb}
 use lib.ListN.{length, getD, length-append}
-use borrow.Author.Tests.{ltb-true, ltb-false, eqb-true, eqb-false, le-ltb, ne-eqb}
+use borrow.Author.Tests.{ltb-true, ltb-false, eqb-true, eqb-false, le-ltb}
 use Rattle.rules.specs.First.{first}
 use Rattle.crc32_rules.specs.Crc.{crcFrom, allOnes}
 use Rattle.sparse_rules.specs.declared.Header.{Header}
@@ -19,15 +19,17 @@ use Rattle.sparse_rules.specs.declared.Chunk.{Chunk}
 use Rattle.sparse_rules.specs.Header.{headerOf, blockSize, statedChecksum}
 use Rattle.sparse_rules.specs.Walk.{endTests, origin}
 use Rattle.sparse_rules.specs.Cells.{zeroed, written, skipped, writes, checksumOf}
-use Rattle.sparse_rules.specs.Judge.{sumTests}
+use Rattle.sparse_rules.specs.Judge.{sumDiffers, sumTests}
 use Rattle.sparse_rules.specs.Facts.{dataBytes, Complete}
+use Rattle.sparse_rules.proofs.Facts.{sum-number}
 use Rattle.sparse_rules.proofs.SumLaws.{sum-finish}
 use Rattle.sparse_store_rules.specs.Store.{laid}
 use Rattle.sparse_stream_rules.specs.declared.Pass.{Pass}
 use Rattle.sparse_stream_rules.specs.Known.{Known, stopped, waiting, whole, whenTested, moreKnown, knownFrom, knownSum, dueFrom}
 use Rattle.sparse_stream_rules.specs.State.{headOf, kindNow, blocksNow, stopOr}
-use Rattle.sparse_stream_rules.specs.Steps.{arrival, arrivalPlace, arrived, settled}
-use Rattle.sparse_stream_rules.proofs.StateLaws.{arrival-short, arrival-chunk, arrival-fell, arrival-more, arrival-sum, arrival-whole, settled-there, settled-before}
+use Rattle.sparse_stream_rules.specs.Steps.{sumOn, arrival, arrivalPlace, arrived, settled}
+use Rattle.sparse_stream_rules.proofs.Sums.{sum-on-differs}
+use Rattle.sparse_stream_rules.proofs.StateLaws.{arrival-short, arrival-chunk, arrival-fell, arrival-more, arrival-last, settled-there, settled-before}
 use Rattle.sparse_stream_rules.proofs.Testing.{asTested, from-short, from-end}
 use Rattle.sparse_stream_rules.proofs.Due.{dues-stay, dues-all}
 
@@ -83,7 +85,7 @@ module _ (len room : ℕ) (lay : List (Option ℕ) → List ℕ) (n₀ : ℕ) (h
     pub blocks : written ks + skipped ks ≡ x .walk .next .first
     pub within : x .walk .next .first ≤ h .total
     pub inside : x .walk .next .at ≤ len
-    pub sum : x .come .sum ≡ crcFrom allOnes (zeroed (dueFrom s (h .block) ks))
+    pub sum : x .come .sum ≡ sumOn h allOnes (zeroed (dueFrom s (h .block) ks))
     pub part : q ≡ lay (dueFrom s (h .block) ks)
     pub late : n₀ ≤ length (dueFrom s (h .block) ks)
     pub wide : length (x .kept .chunk) ≡ 12
@@ -123,7 +125,7 @@ module _ (len room : ℕ) (lay : List (Option ℕ) → List ℕ) (n₀ : ℕ) (h
     pub end : length s ≡ len
     pub left : x .walk .left ≡ 0
     pub full : h .total ≤ x .walk .next .first
-    pub checks : bitXor (x .come .sum) allOnes ≡ h .checksum
+    pub checks : sumDiffers (bitXor (x .come .sum) allOnes) (h .checksum) ≡ false
     pub complete : Complete s (h .block) ks
 
   pub data Place (x : Pass) (s : List ℕ) (ks : List Chunk) : Type 0 where
@@ -194,29 +196,39 @@ module _ (len room : ℕ) (lay : List (Option ℕ) → List ℕ) (n₀ : ℕ) (h
         → knownFrom (s ++ t) len h (x .walk .left) (cursor x) ≡ whenTested (asTested (first (endTests len h (cursor x)))) (x .walk .next .at) (whole [])
     ends l t = rw l (from-end (s ++ t) len h (cursor x) (later t))
 
-    -- the checksum of what has come
-    pub checksum-is : checksumOf s (blockSize s) ks ≡ bitXor (x .come .sum) allOnes
-    checksum-is =
-        let hb : blockSize s ≡ h .block = ap (λ (k : Header). k .block) (b .same) in
-        rw hb
-        (sum-finish s (h .block) ks ∙ ap (λ (r : List (Option ℕ)). bitXor (crcFrom allOnes (zeroed r)) allOnes) (sym (dues-all s (h .block) ks c)) ∙ ap (λ (n : ℕ). bitXor n allOnes) (sym (b .sum)))
+    -- the checksum's test says what the state does
+    pub number-is : first (sumTests s ks) ≡ cond (sumDiffers (bitXor (x .come .sum) allOnes) (h .checksum)) 11 0
+    number-is =
+        let sum : checksumOf s (h .block) ks ≡ bitXor (crcFrom allOnes (zeroed (dueFrom s (h .block) ks))) allOnes =
+        sum-finish s (h .block) ks
+        ∙ ap (λ (r : List (Option ℕ)). bitXor (crcFrom allOnes (zeroed r)) allOnes) (sym (dues-all s (h .block) ks c)) in
+        let same : sumDiffers (checksumOf s (blockSize s) ks) (statedChecksum s) ≡ sumDiffers (bitXor (x .come .sum) allOnes) (h .checksum) =
+        ap (λ (k : Header). sumDiffers (checksumOf s (k .block) ks) (k .checksum)) (b .same)
+        ∙ ap (λ (n : ℕ). sumDiffers n (h .checksum)) sum
+        ∙ sym (sum-on-differs h allOnes (zeroed (dueFrom s (h .block) ks)))
+        ∙ ap (λ (n : ℕ). sumDiffers (bitXor n allOnes) (h .checksum)) (sym (b .sum)) in
+        sum-number s ks ∙ ap (λ (t : Bool). cond t 11 0) same
 
     by-sum : (x .walk .next .at ≡ len) → x .walk .left ≡ 0 → h .total ≤ x .walk .next .first
-        → (bitXor (x .come .sum) allOnes ≡ h .checksum → ⊥) → (t : List ℕ) → length s + length t ≤ len
+        → sumDiffers (bitXor (x .come .sum) allOnes) (h .checksum) ≡ true → (t : List ℕ) → length s + length t ≤ len
         → knownSum (s ++ t) (chunksKnown (s ++ t)) ≡ stopped ks 11 24
-    unfolding knownSum sumTests endTests
+    unfolding knownSum endTests
     by-sum e l full d [] m =
         let w : chunksKnown (s ++ []) ≡ whole ks =
         b .rest []
         ∙ ap (moreAll ks) (ends l [] ∙ rw (le-ltb (x .walk .next .first) (h .total) full, le-ltb (x .walk .next .at) len (omega arith)))
         ∙ more-whole ks in
-        let hc : statedChecksum s ≡ h .checksum = ap (λ (k : Header). k .checksum) (b .same) in
         let o : s ++ [] ≡ s = append-nil s in
-        rw w (rw o (rw (ne-eqb (checksumOf s (blockSize s) ks) (statedChecksum s) (λ g. d (sym checksum-is ∙ g ∙ hc)))))
+        rw w (rw o (rw (number-is, d)))
     by-sum e l full d (a ∷ t) m = absurd (omega arith)
 
+    -- all has come
+    last : x .walk .left ≡ 0 → h .total ≤ x .walk .next .first → len ≤ x .walk .next .at
+        → arrival x ≡ cond (sumDiffers (bitXor (x .come .sum) allOnes) (h .checksum)) 11 0
+    last l o r = arrival-last x h (sym (b .head)) (omega arith) o (omega (arith, b .told)) (bitXor (x .come .sum) allOnes) refl
+
     at-last : x .walk .left ≡ 0 → (y z w : Bool) → ltb (x .walk .next .first) (h .total) ≡ y → ltb (x .walk .next .at) len ≡ z
-        → eqb (bitXor (x .come .sum) allOnes) (h .checksum) ≡ w → After (arrived x) s q
+        → sumDiffers (bitXor (x .come .sum) allOnes) (h .checksum) ≡ w → After (arrived x) s q
     unfolding endTests
     at-last l true z w ey ez ew =
         let o : x .walk .next .first < h .total = ltb-true _ _ ey in
@@ -229,28 +241,24 @@ module _ (len room : ℕ) (lay : List (Option ℕ) → List ℕ) (n₀ : ℕ) (h
         let n : 10 ≡ arrival x = arrival-more x h (sym (b .head)) (omega arith) o (omega (arith, b .told)) in
         after-same (arrived x) (stopOr 10 (x .walk .next .at) x x) s q (arrived-by x 10 n)
         (stop-at x s q ks 9 (x .walk .next .at) (stopOr 10 (x .walk .next .at) x x) b c (λ t. ends l t ∙ rw (ey, ez)) refl refl)
-    at-last l false false false ey ez ew =
+    at-last l false false true ey ez ew =
         let o : h .total ≤ x .walk .next .first = ltb-false _ _ ey in
         let r : len ≤ x .walk .next .at = ltb-false _ _ ez in
-        let d : bitXor (x .come .sum) allOnes ≡ h .checksum → ⊥ = eqb-false _ _ ew in
-        let n : 11 ≡ arrival x =
-        arrival-sum x h (sym (b .head)) (omega arith) o (omega (arith, b .told)) (bitXor (x .come .sum) allOnes) refl d in
+        let n : 11 ≡ arrival x = sym (last l o r ∙ rw ew) in
         after-same (arrived x) (stopOr 11 24 x x) s q (arrived-by x 11 n)
         (stops ks
         (record {
           number = omega arith;
-          known = by-sum (omega (arith, b .inside)) l o d;
+          known = by-sum (omega (arith, b .inside)) l o ew;
           due = λ t. dues-stay s t (h .block) ks c;
           part = b .part;
         }))
-    at-last l false false true ey ez ew =
+    at-last l false false false ey ez ew =
         let o : h .total ≤ x .walk .next .first = ltb-false _ _ ey in
         let r : len ≤ x .walk .next .at = ltb-false _ _ ez in
-        let d : bitXor (x .come .sum) allOnes ≡ h .checksum = eqb-true _ _ ew in
-        let n : 0 ≡ arrival x =
-        arrival-whole x h (sym (b .head)) (omega arith) o (omega (arith, b .told)) (bitXor (x .come .sum) allOnes) refl d in
+        let n : 0 ≡ arrival x = sym (last l o r ∙ rw ew) in
         after-same (arrived x) x s q (arrived-by x 0 n)
-        (goes ks b (at-end (record { here = there; end = omega (arith, b .inside); left = l; full = o; checks = d; complete = c })))
+        (goes ks b (at-end (record { here = there; end = omega (arith, b .inside); left = l; full = o; checks = ew; complete = c })))
 
     pub arrives : After (arrived x) s q
     arrives = go (ltb 0 (x .walk .left)) refl
@@ -259,7 +267,7 @@ module _ (len room : ℕ) (lay : List (Option ℕ) → List ℕ) (n₀ : ℕ) (h
         go true e = at-chunk (ltb-true 0 (x .walk .left) e) (ltb len (x .walk .next .at + h .head)) refl
         go false e =
             at-last (omega (arith, ltb-false 0 (x .walk .left) e)) (ltb (x .walk .next .first) (h .total)) (ltb (x .walk .next .at) len)
-            (eqb (bitXor (x .come .sum) allOnes) (h .checksum)) refl refl refl
+            (sumDiffers (bitXor (x .come .sum) allOnes) (h .checksum)) refl refl refl
 
   -- a state that may have arrived
   pub settles : (x : Pass) (s q : List ℕ) (ks : List Chunk) → Base x s q ks → length s ≤ x .walk .next .at

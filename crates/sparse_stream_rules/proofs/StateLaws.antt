@@ -1,6 +1,6 @@
 -- The exits of the inner functions: what each returns, from what the tests before it left.
 -- Assumes nothing.
-use mathlib.Core.Path.{_≡_, refl, sym, ap, _∙_}
+use mathlib.Core.Path.{_≡_, refl, sym, _∙_}
 use mathlib.Core.Bool.{Bool, true, false, not, cond, _&&_}
 use mathlib.Core.List.{List, [], _∷_}
 use Prim.Native.Nat.{ℕ, zero, suc, _+_, _-_, _*_, _≤_, _<_, zero-le}
@@ -15,6 +15,7 @@ use Rattle.sparse_rules.specs.declared.Header.{Header}
 use Rattle.sparse_rules.specs.declared.Kind.{Kind}
 use Rattle.sparse_rules.specs.Header.{magic, major, fileHeaderSize, chunkHeaderSize, blockSize, totalBlocks, headerSizeRight, blockSizeRight, headerTests}
 use Rattle.sparse_rules.specs.Chunks.{sizeRight}
+use Rattle.sparse_rules.specs.Judge.{sumDiffers}
 use Rattle.sparse_stream_rules.specs.declared.Pass.{Pass}
 use Rattle.sparse_stream_rules.specs.Known.{passes, refuses, testedNumber}
 use Rattle.sparse_stream_rules.specs.State.{headOf, kindNow, blocksNow, sizeNow, stopOr}
@@ -141,20 +142,13 @@ module _ (x : Pass) where
       unfolding arrival
       arrival-more p = let q : headOf x .total ≤ x .walk .next .first = rw e at t in rw (le-ltb _ _ l, le-ltb _ _ q, lt-ltb _ _ p)
 
-      module _ (p : x .told .length ≤ x .walk .next .at) (f : ℕ) (g : f ≡ bitXor (x .come .sum) allOnes) where
-        pub arrival-sum : (f ≡ h .checksum → ⊥) → 11 ≡ arrival x
-        unfolding arrival
-        arrival-sum d =
-            let q : headOf x .total ≤ x .walk .next .first = rw e at t in
-            let c : bitXor (x .come .sum) allOnes ≡ headOf x .checksum → ⊥ = λ o. d (g ∙ o ∙ sym (ap (λ (k : Header). k .checksum) e)) in
-            rw (le-ltb _ _ l, le-ltb _ _ q, le-ltb _ _ p, ne-eqb _ _ c)
-
-        pub arrival-whole : f ≡ h .checksum → 0 ≡ arrival x
-        unfolding arrival
-        arrival-whole d =
-            let q : headOf x .total ≤ x .walk .next .first = rw e at t in
-            let c : bitXor (x .come .sum) allOnes ≡ headOf x .checksum = sym g ∙ d ∙ ap (λ (k : Header). k .checksum) e in
-            rw (le-ltb _ _ l, le-ltb _ _ q, le-ltb _ _ p, eq-eqb _ _ c)
+      -- all has come: the checksum decides
+      pub arrival-last : x .told .length ≤ x .walk .next .at → (f : ℕ) → f ≡ bitXor (x .come .sum) allOnes
+          → arrival x ≡ cond (sumDiffers f (h .checksum)) 11 0
+      unfolding arrival
+      arrival-last p f g =
+          let q : headOf x .total ≤ x .walk .next .first = rw e at t in
+          rw (le-ltb _ _ l, le-ltb _ _ q, le-ltb _ _ p, g, e)
 
 -- ---- a chunk's header
 

@@ -1,6 +1,6 @@
 -- Bytes one after the other, and a stretch of them at once.
 -- Assumes nothing.
-use mathlib.Core.Path.{_≡_, refl, ap, ap₂, _∙_}
+use mathlib.Core.Path.{_≡_, refl, sym, ap, ap₂, _∙_}
 use mathlib.Core.Bool.{Bool, true, false, not, _&&_, _||_}
 use mathlib.Core.Option.{some}
 use mathlib.Core.List.{List, [], _∷_, _++_, map}
@@ -10,14 +10,14 @@ use lib.Dec.{leb, ltb}
 use lib.Seq.{sets}
 use lib.ListN.{length, set}
 use borrow.Author.Tests.{ltb-false, leb-false, lt-ltb, le-ltb, le-leb, lt-leb, eq-eqb, ne-eqb}
-use Rattle.crc32_rules.specs.Crc.{crcFrom}
 use Rattle.sparse_rules.specs.declared.Kind.{Kind}
 use Rattle.sparse_rules.specs.declared.Kind.the-variants.{Raw, Fill, DontCare, Unknown}
 use Rattle.sparse_store_rules.specs.Store.{laid}
 use Rattle.sparse_stream_rules.specs.declared.Pass.{Pass}
-use Rattle.sparse_stream_rules.specs.State.{kindNow, spanNow, endNow, dataBy, gap, stuck, moved, keeping, inData}
-use Rattle.sparse_stream_rules.specs.Steps.{settled, headed, chunkTaken, chunkKept, gathered, fillSum, wordKept, worded, dataTaken, carried, stepped, fed}
+use Rattle.sparse_stream_rules.specs.State.{headOf, kindNow, spanNow, endNow, dataBy, gap, stuck, moved, keeping, inData}
+use Rattle.sparse_stream_rules.specs.Steps.{sumOn, settled, headed, chunkTaken, chunkKept, gathered, fillSum, wordKept, worded, dataTaken, carried, stepped, fed}
 use Rattle.sparse_stream_rules.specs.Laid.{fillLaid, dataLaid, laidBy, stores}
+use Rattle.sparse_stream_rules.proofs.Sums.{sum-on-append}
 use Rattle.sparse_stream_rules.proofs.StateLaws.{settled-before}
 use Rattle.sparse_store_rules.proofs.Over.{laid-cons}
 use Rattle.rules.proofs.Tests.{or-left, or-right, and-rest}
@@ -128,24 +128,19 @@ fed-pass x b (c ∷ bs) free known h =
     (fed-pass (moved x 1 (x .come .sum)) c bs (free-before (moved x 1 (x .come .sum)) (free-number x free) (omega arith)) (omega arith) (before-data (kindNow x) x 1 (x .come .sum) (suc (length bs)) (x .walk .next .at - (x .come .bytes + 1)) (omega arith))
     ∙ ap settled (moved-twice x (suc (length bs)) (x .come .sum) (x .come .sum)))
 
--- the checksum's state over a byte and the bytes after it
-pub crc-cons : (s b : ℕ) (bs : List ℕ) → crcFrom (crcFrom s (b ∷ [])) bs ≡ crcFrom s (b ∷ bs)
-unfolding crcFrom
-crc-cons s b bs = refl
-
 -- raw data
 pub fed-raw : (x : Pass) (b : ℕ) (bs : List ℕ) → stuck x ≡ false → 28 ≤ x .come .bytes → kindNow x ≡ Raw → gap x ≤ dataBy (kindNow x) x → suc (length bs) ≤ gap x
-    → fed x (b ∷ bs) ≡ settled (moved x (suc (length bs)) (crcFrom (x .come .sum) (b ∷ bs)))
+    → fed x (b ∷ bs) ≡ settled (moved x (suc (length bs)) (sumOn (headOf x) (x .come .sum) (b ∷ bs)))
 unfolding fed
 fed-raw x b [] free known k d h = step-data x b free known (omega arith) ∙ carried-data x b d ∙ rw k
 fed-raw x b (c ∷ bs) free known k d h =
-    let s : ℕ = crcFrom (x .come .sum) (b ∷ []) in
+    let s : ℕ = sumOn (headOf x) (x .come .sum) (b ∷ []) in
     let g : stepped x b ≡ moved x 1 s =
     step-data x b free known (omega arith) ∙ carried-data x b d ∙ rw k
     (settled-before (moved x 1 s) (λ (e : x .come .bytes + 1 ≡ x .walk .next .at). absurd (omega arith))) in
     rw g
     (fed-raw (moved x 1 s) c bs (free-before (moved x 1 s) (free-number x free) (omega arith)) (omega arith) k (in-data (kindNow x) x 1 s (x .walk .next .at - (x .come .bytes + 1)) (omega arith)) (omega arith)
-    ∙ ap settled (moved-twice x (suc (length bs)) s (crcFrom s (c ∷ bs)) ∙ ap (λ (n : ℕ). moved x (suc (suc (length bs))) n) (crc-cons (x .come .sum) b (c ∷ bs))))
+    ∙ ap settled (moved-twice x (suc (length bs)) s (sumOn (headOf x) s (c ∷ bs)) ∙ ap (moved x (suc (suc (length bs)))) (sym (sum-on-append (headOf x) (x .come .sum) (b ∷ []) (c ∷ bs)))))
 
 -- ---- what bytes store
 
@@ -359,7 +354,7 @@ pub stores-raw : (x : Pass) (b : ℕ) (bs p : List ℕ) → stuck x ≡ false �
 unfolding stores
 stores-raw x b [] p free known k d h = lays-data x b p free known (omega arith) d ∙ rw k
 stores-raw x b (c ∷ bs) p free known k d h =
-    let s : ℕ = crcFrom (x .come .sum) (b ∷ []) in
+    let s : ℕ = sumOn (headOf x) (x .come .sum) (b ∷ []) in
     let g : stepped x b ≡ moved x 1 s =
     step-data x b free known (omega arith) ∙ carried-data x b d ∙ rw k
     (settled-before (moved x 1 s) (λ (e : x .come .bytes + 1 ≡ x .walk .next .at). absurd (omega arith))) in

@@ -11,9 +11,10 @@ use Rattle.rules.specs.Answer.{Answer, refused, HasNumber}
 use Rattle.sparse_rules.specs.Answers.{Counts, counts, answer}
 use Rattle.sparse_store_rules.specs.Runs.{run, answers, Cut, past, Reached, start, again}
 use Rattle.sparse_store_rules.proofs.Restart.{restart}
-use Rattle.sparse_stream_rules.specs.Theorems.{PassCut, PassReached, PassRun, ImageBytes, PassRestart, OnlyDue, EachStores, EachAnswers, RefusalNumbers}
+use Rattle.sparse_stream_rules.specs.Theorems.{PassCut, PassReached, PassRun, ImageBytes, PassRestart, OnlyDue, EachStores, EachAnswers, Unsummed, RefusalNumbers}
 use Rattle.sparse_stream_rules.specs.Theorems as passes
 use Rattle.sparse_stream_rules.specs.States.{answerNow}
+use Rattle.sparse_stream_rules.proofs.Taken.{head-same, fed-same}
 use Rattle.sparse_stream_rules.proofs.Growth.{cut-always, as-whole}
 use Rattle.sparse_stream_rules.proofs.Passes.{all-due}
 use Rattle.sparse_stream_rules.proofs.EachCall.{each-call, each-answer}
@@ -62,6 +63,9 @@ each-stores len room cs small = each-call len room cs small
 
 pub each-answers : EachAnswers
 each-answers len room qs small = each-answer len room qs small
+
+pub unsummed : Unsummed
+unsummed = record { header = head-same; none = fed-same }
 
 pub refusal-numbers : RefusalNumbers
 unfolding answerNow

@@ -10,15 +10,20 @@ use Rattle.rules.specs.First.{first}
 use Rattle.fields_rules.specs.Number.{numberAt, bytes}
 use Rattle.crc32_rules.specs.Crc.{crcFrom, allOnes}
 use Rattle.crc32_rules.specs.Power.{repeated}
+use Rattle.sparse_rules.specs.declared.Header.{Header}
 use Rattle.sparse_rules.specs.declared.Kind.{Kind}
 use Rattle.sparse_rules.specs.declared.Kind.the-variants.{Raw, Fill, DontCare, Unknown}
 use Rattle.sparse_rules.specs.Header.{headerTests}
 use Rattle.sparse_rules.specs.Chunks.{sizeRight}
 use Rattle.sparse_rules.specs.Cells.{writes}
-use Rattle.sparse_rules.specs.Judge.{sumDiffers}
+use Rattle.sparse_rules.specs.Judge.{sumStated, sumDiffers}
 use Rattle.sparse_stream_rules.specs.declared.Pass.{Pass}
 use Rattle.sparse_stream_rules.specs.Known.{tested, testedNumber, headerEnds}
 use Rattle.sparse_stream_rules.specs.State.{headOf, kindNow, blocksNow, sizeNow, spanNow, gap, dataBy, stuck, stopOr, moved, walking, keeping}
+
+-- the checksum's state after some more bytes: where the header states none, none is worked out
+unfoldable pub sumOn : Header → ℕ → List ℕ → ℕ
+sumOn h sum bs = cond (sumStated (h .checksum)) (crcFrom sum bs) sum
 
 -- ---- where a chunk begins, or the image ends
 
@@ -97,9 +102,9 @@ chunkNumber x =
     ∷ [])
 
 -- the checksum's state after a chunk's header: blocks that are skipped count as zeros at once
-abbrev pub skipSum : Bool → ℕ → ℕ → ℕ
-skipSum true n sum = sum
-skipSum false n sum = crcFrom sum (replicate n 0)
+abbrev pub skipSum : Bool → Header → ℕ → ℕ → ℕ
+skipSum true h n sum = sum
+skipSum false h n sum = sumOn h sum (replicate n 0)
 
 -- past the chunk's size and its blocks; the count of blocks written is one of 32 bits
 abbrev pub chunkRead : Pass → Pass
@@ -107,7 +112,7 @@ chunkRead x =
     record {
       told = x .told;
       refusal = x .refusal;
-      come = record { bytes = x .come .bytes; sum = skipSum (writes (kindNow x)) (spanNow x) (x .come .sum) };
+      come = record { bytes = x .come .bytes; sum = skipSum (writes (kindNow x)) (headOf x) (spanNow x) (x .come .sum) };
       walk = record {
         next = record { at = x .walk .next .at + sizeNow x; first = x .walk .next .first + blocksNow x };
         left = x .walk .left - 1;
@@ -141,7 +146,7 @@ gathered x b = takenIf (eqb (x .come .bytes - x .walk .next .at) 11) (chunkKept 
 
 -- the checksum's state after a byte of a fill word: the last one counts the whole chunk
 abbrev pub fillSum : Bool → Pass → ℕ
-fillSum true x = crcFrom (x .come .sum) (repeated (spanNow x / 4) (bytes 4 (numberAt (x .kept .word) 0 4)))
+fillSum true x = sumOn (headOf x) (x .come .sum) (repeated (spanNow x / 4) (bytes 4 (numberAt (x .kept .word) 0 4)))
 fillSum false x = x .come .sum
 
 -- a byte of a fill word is kept
@@ -154,7 +159,7 @@ worded x b = moved (wordKept x b) 1 (fillSum (eqb (gap x) 1) (wordKept x b))
 
 -- a byte of a kind's data
 abbrev pub dataTaken : Kind → Pass → ℕ → Pass
-dataTaken Raw x b = moved x 1 (crcFrom (x .come .sum) (b ∷ []))
+dataTaken Raw x b = moved x 1 (sumOn (headOf x) (x .come .sum) (b ∷ []))
 dataTaken Fill x b = worded x b
 dataTaken DontCare x b = moved x 1 (x .come .sum)
 dataTaken Unknown x b = moved x 1 (x .come .sum)

@@ -2,7 +2,7 @@
 -- Assumes nothing.
 use mathlib.Core.Path.{_≡_}
 use mathlib.Core.List.{List, [], _∷_, _++_, flatten}
-use Prim.Native.Nat.{ℕ, _≤_}
+use Prim.Native.Nat.{ℕ, _≤_, _<_}
 use lib.ListN.{length}
 use Rattle.rules.specs.Answer.{Answer, accepted, HasNumber}
 use Rattle.fields_rules.specs.Number.{Bytes}
@@ -12,6 +12,8 @@ use Rattle.sparse_rules.specs.Answers.{Counts, answer}
 use Rattle.sparse_store_rules.specs.Store.{store}
 use Rattle.sparse_store_rules.specs.Runs.{run, answers, Cut, Disturbed, Restored}
 use Rattle.sparse_stream_rules.specs.declared.Pass.{Pass}
+use Rattle.sparse_stream_rules.specs.State.{headOf}
+use Rattle.sparse_stream_rules.specs.Steps.{stepped, fed}
 use Rattle.sparse_stream_rules.specs.States.{answerNow}
 use Rattle.sparse_stream_rules.specs.Passes.{storeAfter, storeAnswer, Same, Due, EachStored, AllBytes, Asked, EachAnswer, AskedBytes}
 
@@ -87,6 +89,13 @@ EachStores = (len room : ℕ) (cs : List (List ℕ × List ℕ)) → AllBytes cs
 -- refusal already given is given again to every later call, before any test": after any calls qs whatever, in any order
 abbrev pub EachAnswers : Type 0
 EachAnswers = (len room : ℕ) (qs : List Asked) → AskedBytes qs → EachAnswer len room qs
+
+-- where the file header states 0, nothing is summed
+pub record Unsummed : Type 0 where
+  -- no byte of the file header is, whatever it states
+  pub header : (x : Pass) (b : ℕ) → x .come .bytes < 28 → stepped x b .come .sum ≡ x .come .sum
+  -- and no byte after it where it states none
+  pub none : (x : Pass) (bs : List ℕ) → 28 ≤ x .come .bytes → headOf x .checksum ≡ 0 → fed x bs .come .sum ≡ x .come .sum
 
 -- no refusal of a pass that is finished has the number 0, which is returned where nothing is refused
 abbrev pub RefusalNumbers : Type 0

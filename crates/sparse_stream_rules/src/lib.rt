@@ -9,7 +9,7 @@ pub struct Told {
     pub room: u64,
 }
 
-// What has come: how many bytes, and the checksum's state over the blocks that they give.
+// What has come: how many bytes, and the checksum's state over the blocks that they give, which stays where none is stated.
 pub struct Come {
     pub bytes: usize,
     pub sum: u32,

@@ -101,10 +101,10 @@ fn arrival_number(x: Pass) -> u32
     if x.walk.next.at < x.told.length {
         return 10;
     }
-    if crc32::finish(x.come.sum) != header.checksum {
-        return 11;
-    }
-    0
+    number_if(
+        (header.checksum != 0) & (crc32::finish(x.come.sum) != header.checksum),
+        11,
+    )
 }
 
 // The state that has come to where a chunk begins, or to the end.

@@ -16,9 +16,9 @@ use Rattle.crc32_rules.specs.Crc.{crc32}
 use Rattle.crc32_rules.proofs.Laws.{crc-finish, crc32-fits}
 use Rattle.sparse_rules.specs.declared.Header.{Header}
 use Rattle.sparse_rules.specs.declared.Chunk.{Chunk}
-use Rattle.sparse_rules.specs.Header.{blockSize, totalBlocks, headerOf, blockSizeRight, headerTests}
+use Rattle.sparse_rules.specs.Header.{blockSize, totalBlocks, statedChecksum, headerOf, blockSizeRight, headerTests}
 use Rattle.rules.specs.Answer.{accepted}
-use Rattle.sparse_rules.specs.Cells.{tab, rawByte, cells, zeroed}
+use Rattle.sparse_rules.specs.Cells.{tab, rawByte, cells, zeroed, checksumOf}
 use Rattle.sparse_rules.specs.Judge.{structure, judged}
 use Rattle.sparse_rules.proofs.Facts.{judged-accepted, sum-passed}
 use Rattle.sparse_rules.proofs.Refusals.{header-passes}
@@ -195,14 +195,21 @@ module _ (b : ℕ) (xs : List Block) (w : Whole b xs) where
       (tests-pass b (length xs) (length (runs sameKind (map (blockKind b) xs))) (crc32 (zeroed (blockCells b xs))) room (chunks b (zeroed (blockCells b xs)) 0 (runs sameKind (map (blockKind b) xs)))
       (omega arith) few (w .right) h)
 
-  accepts : (room : ℕ) → length xs * b ≤ room → judged (encode b xs) (length (encode b xs)) room ≡ accepted found
+  -- the checksum, read back
+  pub sum-read : statedChecksum (encode b xs) ≡ crc32 (zeroed (blockCells b xs))
   unfolding head
+  sum-read = ap (λ (h : Header). h .checksum) head-is
+
+  -- which is the true one
+  true-sum : checksumOf (encode b xs) b found ≡ crc32 (zeroed (blockCells b xs))
+  true-sum =
+      sum-finish (encode b xs) b found ∙ sym (crc-finish (zeroed (cells (encode b xs) b found)))
+      ∙ ap (λ (cs : List (Option ℕ)). crc32 (zeroed cs)) cells-are
+
+  accepts : (room : ℕ) → length xs * b ≤ room → judged (encode b xs) (length (encode b xs)) room ≡ accepted found
   accepts room h =
       judged-accepted (encode b xs) (length (encode b xs)) room (passes room h) found walks
-      (sum-passed (encode b xs) found
-      (sum-finish (encode b xs) (blockSize (encode b xs)) found ∙ sym (crc-finish (zeroed (cells (encode b xs) (blockSize (encode b xs)) found)))
-      ∙ ap (λ (n : ℕ). crc32 (zeroed (cells (encode b xs) n found))) size-read ∙ ap (λ (cs : List (Option ℕ)). crc32 (zeroed cs)) cells-are
-      ∙ sym (ap (λ (h : Header). h .checksum) head-is)))
+      (sum-passed (encode b xs) found (ap (λ (n : ℕ). checksumOf (encode b xs) n found) size-read ∙ true-sum ∙ sym sum-read))
 
   chunks-back : map (runOf (encode b xs)) found ≡ runs sameKind (map (blockKind b) xs)
   unfolding found
@@ -222,6 +229,7 @@ module _ (b : ℕ) (xs : List Block) (w : Whole b xs) where
         ks = found;
         found = accepts room h;
         states = (size-read, total-read);
+        sums = sum-read ∙ sym true-sum;
         cells-are = cells-are;
         gives = effect-accepted (encode b xs) room found (accepts room h) ∙ ap (λ (n : ℕ). cells (encode b xs) n found) size-read ∙ cells-are;
         chunks-are = chunks-back;

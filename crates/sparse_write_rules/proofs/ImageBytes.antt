@@ -5,7 +5,7 @@ use mathlib.Core.List.{List, [], _∷_, map}
 use Prim.Native.Nat.{ℕ, zero, suc, _+_, _*_, _<_}
 use native.Mathlib.Omega.{arith}
 use lib.ListN.{length, getD, replicate}
-use Rattle.fields_rules.specs.Number.{bytes, packed, Bytes}
+use Rattle.fields_rules.specs.Number.{packed, Bytes}
 use Rattle.fields_rules.proofs.Laws.{bytes-number, bytes-append}
 use Rattle.fields_rules.proofs.Packed.{bytes-packed}
 use Rattle.sparse_rules.specs.Cells.{tab, rawByte, zeroed}

@@ -1,8 +1,9 @@
--- No two lists of blocks have one image; how long an image can be; the round trip of flat data; and that no refusal has the number 0.
+-- No two lists of blocks have one image; how long an image can be; the round trip of flat data, and the checksum that their image
+-- states; and that no refusal has the number 0.
 -- Assumes nothing.
 use mathlib.Core.Path.{_≡_, refl, sym, ap, ap₂, _∙_}
 use mathlib.Core.Bool.{true, false}
-use mathlib.Core.Option.{none, some}
+use mathlib.Core.Option.{Option, none, some}
 use mathlib.Core.List.{List, [], _∷_, map}
 use Prim.Native.Nat.{ℕ, zero, suc, _+_, _*_, _/_, _≤_, _<_}
 use native.Mathlib.Nat.{not-suc-le-zero, add-mul}
@@ -19,7 +20,8 @@ use Rattle.rules.proofs.Tests.{all-fail}
 use Rattle.sparse_rules.specs.declared.Kind.{Kind}
 use Rattle.sparse_rules.specs.declared.Kind.the-variants.{Raw, Fill, DontCare, Unknown}
 use Rattle.sparse_rules.specs.declared.Chunk.{Chunk}
-use Rattle.sparse_rules.specs.Header.{blockSizeRight, blockSize}
+use Rattle.crc32_rules.specs.Crc.{crc32}
+use Rattle.sparse_rules.specs.Header.{blockSizeRight, blockSize, statedChecksum}
 use Rattle.sparse_rules.specs.Cells.{tab, rawByte, zeroed, written, skipped}
 use Rattle.sparse_rules.specs.Judge.{effect}
 use Rattle.sparse_rules.specs.Answers as judge
@@ -32,13 +34,13 @@ use Rattle.sparse_write_rules.specs.Kinds.{BlockKind, kept, raw, fill, s
 use Rattle.sparse_write_rules.specs.Runs.{Run, runs, Longest, nothing, single, next}
 use Rattle.sparse_write_rules.specs.Encode.{chunkSize, chunks, image, encode}
 use Rattle.sparse_write_rules.specs.Write.{flatImage, lengthWrong, writeTests, answer, output, bound}
-use Rattle.sparse_write_rules.specs.Theorems.{chunkKind, runOf, Unique, Bounded, GivesBack, RoundTrip, RefusalNumbers}
+use Rattle.sparse_write_rules.specs.Theorems.{chunkKind, runOf, Unique, Bounded, GivesBack, TrueChecksum, RoundTrip, RefusalNumbers}
 use Rattle.sparse_write_rules.proofs.Runs.{tells-kinds, longest, counted, All, AllRuns, all-runs, at-least}
 use Rattle.sparse_write_rules.proofs.KindCells.{Stores, stored-stores}
 use Rattle.sparse_write_rules.proofs.Chunks.{chunks-nil, chunks-cons, length-chunk, length-header}
 use Rattle.sparse_write_rules.proofs.FlatImage.{length-blocks, cells-flat, block-good, length-good}
 use Rattle.sparse_write_rules.proofs.ImageBytes.{bytes-tab}
-use Rattle.sparse_write_rules.proofs.Encoded.{length-block, all-blocks, size-read, reads}
+use Rattle.sparse_write_rules.proofs.Encoded.{length-block, all-blocks, size-read, sum-read, reads}
 
 -- ---- no two lists of blocks have one image
 
@@ -174,6 +176,13 @@ module _ (d : List ℕ) (b : ℕ) (small : Bytes d) (right : blockSizeRight b �
   unfolding flatBlocks
   stored-all = blocks-stored d b (length d / b) 0
 
+  -- it states their checksum
+  flat-sum : statedChecksum (flatImage d b) ≡ crc32 d
+  unfolding flatImage
+  flat-sum =
+      let g = length-good (length d) b fits in
+      sum-read b (flatBlocks d b) flat-whole ∙ ap (λ (cs : List (Option ℕ)). crc32 (zeroed cs)) (cells-flat d b (g .1)) ∙ ap crc32 (zeroed-some d)
+
   -- read back, it gives the flat data
   flat-trip : (p : List ℕ) → length d ≤ length p → GivesBack d b (flatImage d b) p
   unfolding flatImage
@@ -223,6 +232,13 @@ unfolding output
 gives-back d b out n p small e h =
     let q = accepted-tests d b (length out) n e in
     rw (e, take-at (flatImage d b) (drop n out) n (q .3)) (flat-trip d b small (q .0) (q .1) p h)
+
+-- what the writer left states the checksum of the flat data
+pub true-checksum : TrueChecksum
+unfolding output
+true-checksum d b out n small e =
+    let q = accepted-tests d b (length out) n e in
+    rw (e, take-at (flatImage d b) (drop n out) n (q .3)) (flat-sum d b small (q .0) (q .1))
 
 -- flat data that are written come back
 pub round-trip : RoundTrip

@@ -6,13 +6,14 @@ use mathlib.Core.List.{List, _++_, map}
 use Prim.Native.Nat.{ℕ, _+_, _*_, _/_, _≤_}
 use lib.ListN.{length, take, drop}
 use Rattle.fields_rules.specs.Number.{numberAt, Bytes}
+use Rattle.crc32_rules.specs.Crc.{crc32}
 use Rattle.rules.specs.Answer as rules
 use Rattle.sparse_rules.specs.declared.Kind.{Kind}
 use Rattle.sparse_rules.specs.declared.Kind.the-variants.{Raw, Fill, DontCare, Unknown}
 use Rattle.sparse_rules.specs.declared.Chunk.{Chunk}
-use Rattle.sparse_rules.specs.Header.{blockSize, totalBlocks, blockSizeRight}
+use Rattle.sparse_rules.specs.Header.{blockSize, totalBlocks, statedChecksum, blockSizeRight}
 use Rattle.rules.specs.Answer.{accepted}
-use Rattle.sparse_rules.specs.Cells.{cells}
+use Rattle.sparse_rules.specs.Cells.{cells, checksumOf}
 use Rattle.sparse_rules.specs.Judge.{judged, effect}
 use Rattle.sparse_rules.specs.Answers as judge
 use Rattle.sparse_store_rules.specs.Store.{store}
@@ -47,6 +48,8 @@ pub record ReadsAs (s : List ℕ) (b : ℕ) (xs : List Block) (room : ℕ) : Typ
   pub found : judged s (length s) room ≡ accepted ks
   -- its header states the block size and how many blocks there are
   pub states : (blockSize s ≡ b) × (totalBlocks s ≡ length xs)
+  -- and the true checksum
+  pub sums : statedChecksum s ≡ checksumOf s b ks
   -- their cells are the blocks' own
   pub cells-are : cells s b ks ≡ blockCells b xs
   -- so the image gives each byte what the blocks give it
@@ -94,6 +97,11 @@ pub record RoundTrip : Type 0 where
   -- and where n bytes are written, these are an image that gives the flat data back
   pub returns : (d : List ℕ) (b : ℕ) (out : List ℕ) (n : ℕ) (p : List ℕ) → Bytes d → answer d b (length out) ≡ rules.accepted n
       → length d ≤ length p → GivesBack d b (take n (output d b out)) p
+
+-- "Our writer goes on stating the true one": where n bytes are written, they state the checksum of the flat data, whatever it is
+abbrev pub TrueChecksum : Type 0
+TrueChecksum = (d : List ℕ) (b : ℕ) (out : List ℕ) (n : ℕ) → Bytes d → answer d b (length out) ≡ rules.accepted n
+    → statedChecksum (take n (output d b out)) ≡ crc32 d
 
 -- no refusal of the writer has the number 0
 abbrev pub RefusalNumbers : Type 0

@@ -1,4 +1,4 @@
--- The worked examples of document 01, a row each: a call, and what must come back.
+-- The worked examples of document 01, as the requests of document 02 left them, a row each: a call, and what must come back.
 -- Assumes nothing.
 use mathlib.Core.Path.{_≡_}
 use mathlib.Core.Bool.{true, false}
@@ -39,9 +39,13 @@ row6 = record { call = stores (p2 ++ (0 ∷ [])) (upFrom 1 12); result = stored 
 abbrev pub row7 : Row
 row7 = record { call = stores (twoChunks 3 0xCAC5 0xFFFFFFFF) (upFrom 1 12); result = row2 .result }
 
--- P8: "P2 with checksum 0: 11"
+-- P8, "P2 with checksum 0", as request 2 of document 02 has it: "an acceptance equal to P2"
 abbrev pub row8 : Row
-row8 = record { call = stores (twoChunks 3 0xCAC3 0) (upFrom 1 12); result = stored (refused 11 24) (upFrom 1 12) }
+row8 = record { call = stores (twoChunks 3 0xCAC3 0) (upFrom 1 12); result = row2 .result }
+
+-- and P2 with checksum 1: "a checksum of 1 there still gives 11"
+abbrev pub row8One : Row
+row8One = record { call = stores (twoChunks 3 0xCAC3 1) (upFrom 1 12); result = stored (refused 11 24) (upFrom 1 12) }
 
 -- P9: "block size 8: one raw chunk, one fill chunk, checksum 0xFFFFFFFF, 64 bytes"
 abbrev pub row9 : Row
@@ -106,7 +110,7 @@ rowListed =
 -- P1 to P14, and the lister's text
 abbrev pub table : List Row
 table =
-    row1 ∷ row2 ∷ row3 ∷ row4 ∷ row5 ∷ row6 ∷ row7 ∷ row8 ∷ row9 ∷ row9Short ∷ row10 ∷ row10Short ∷ row11 ∷ row12 ∷ row13 ∷ row14 ∷ rowListed ∷ []
+    row1 ∷ row2 ∷ row3 ∷ row4 ∷ row5 ∷ row6 ∷ row7 ∷ row8 ∷ row8One ∷ row9 ∷ row9Short ∷ row10 ∷ row10Short ∷ row11 ∷ row12 ∷ row13 ∷ row14 ∷ rowListed ∷ []
 
 -- every call of the table gives back what its row says
 abbrev pub Worked : Type 0

@@ -1,5 +1,6 @@
 -- `sparse_stream_tests::arrival_number` meets its contract. Assumes nothing.
-use Rattle.sparse_stream_rules.proofs.StateLaws.{arrival-past, arrival-short, arrival-chunk, arrival-fell, arrival-more, arrival-sum, arrival-whole}
+use mathlib.Core.Path.{sym, _∙_}
+use Rattle.sparse_stream_rules.proofs.StateLaws.{arrival-past, arrival-short, arrival-chunk, arrival-fell, arrival-more, arrival-last}
 use borrow.Author.Needs.{needs}
 use Rattle.sparse_stream_tests.proofs.arrival_number.Statement.{statement}
 use Rattle.sparse_stream_tests.proofs.arrival_number.Tie as tie
@@ -52,27 +53,19 @@ returns-5 c =
 finish-requires : tie.Need-finish-requires
 finish-requires c κs = search needs
 
+number-if-requires : tie.Need-number-if-requires
+number-if-requires c κs = search needs
+
 returns-6 : tie.Need-returns-6
 returns-6 c =
-    let args = c .before .before .before .before .before .before .before .before .before .before .before .before .before .args in
-    let read-header = c .before .before .before .before .before .before .before .before .before .before .read-header in
-    let if1 = c .before .before .before .before .before .before .before .before .if1 in
-    let if4 = c .before .before .before .before .before .if4 in
-    let if5 = c .before .before .before .if5 in
+    let args = c .before .before .before .before .before .before .before .before .before .before .before .before .before .before .args in
+    let read-header = c .before .before .before .before .before .before .before .before .before .before .before .read-header in
+    let if1 = c .before .before .before .before .before .before .before .before .before .if1 in
+    let if4 = c .before .before .before .before .before .before .if4 in
+    let if5 = c .before .before .before .before .if5 in
     let finish = c .before .before .finish in
-    arrival-sum (args .x) (read-header .result) (read-header .ensures) (if1 .left) (if4 .left) (if5 .left) (finish .result)
-    (finish .ensures) (c .if6 .taken)
-
-returns-7 : tie.Need-returns-7
-returns-7 c =
-    let args = c .before .before .before .before .before .before .before .before .before .before .before .before .before .args in
-    let read-header = c .before .before .before .before .before .before .before .before .before .before .read-header in
-    let if1 = c .before .before .before .before .before .before .before .before .if1 in
-    let if4 = c .before .before .before .before .before .if4 in
-    let if5 = c .before .before .before .if5 in
-    let finish = c .before .before .finish in
-    arrival-whole (args .x) (read-header .result) (read-header .ensures) (if1 .left) (if4 .left) (if5 .left) (finish .result)
-    (finish .ensures) (c .if6 .left)
+    c .number-if .ensures
+    ∙ sym (arrival-last (args .x) (read-header .result) (read-header .ensures) (if1 .left) (if4 .left) (if5 .left) (finish .result) (finish .ensures))
 
 pub arrival-number-spec : {M : Type 1} → statement M
 arrival-number-spec =
@@ -87,5 +80,5 @@ arrival-number-spec =
     returns-4
     returns-5
     finish-requires
-    returns-6
-    returns-7)
+    number-if-requires
+    returns-6)

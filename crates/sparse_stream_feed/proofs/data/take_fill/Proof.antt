@@ -23,8 +23,8 @@ part-copy-end c = search needs
 copy-requires : tie.Need-copy-requires
 copy-requires c κs = search needs
 
-fill-sum-requires : tie.Need-fill-sum-requires
-fill-sum-requires c κs = search needs
+sum-fill-requires : tie.Need-sum-fill-requires
+sum-fill-requires c κs = search needs
 
 advance-requires : tie.Need-advance-requires
 advance-requires c κs = search needs
@@ -33,7 +33,7 @@ returns : tie.Need-returns
 returns c =
     let args = c .before .before .before .before .before .before .before .before .before .args in
     let copy = c .before .before .before .before .copy in
-    c .advance .ensures ∙ rw (c .before .fill-sum .ensures, copy .ensures, back (args .i) 4)
+    c .advance .ensures ∙ rw (c .before .sum-fill .ensures, copy .ensures, back (args .i) 4)
 
 pub take-fill-spec : {M : Type 1} → statement M
 take-fill-spec =
@@ -45,6 +45,6 @@ take-fill-spec =
     part-copy-start
     part-copy-end
     copy-requires
-    fill-sum-requires
+    sum-fill-requires
     advance-requires
     returns)

@@ -14,8 +14,8 @@ keep-word-requires c κs = search needs
 sub-if1 : tie.Need-sub-if1
 sub-if1 c = search needs
 
-fill-sum-requires : tie.Need-fill-sum-requires
-fill-sum-requires c κs = search needs
+sum-fill-requires : tie.Need-sum-fill-requires
+sum-fill-requires c κs = search needs
 
 advance-requires : tie.Need-advance-requires
 advance-requires c κs =
@@ -29,7 +29,7 @@ returns c =
     let args = c .before .before .before .before .before .args in
     let keep-word = c .before .before .before .before .keep-word in
     c .advance .ensures ∙ rw
-    (c .before .fill-sum .ensures, keep-word .ensures, eq-eqb (args .x .walk .next .at - args .x .come .bytes) 1 (c .before .before .if1 .taken))
+    (c .before .sum-fill .ensures, keep-word .ensures, eq-eqb (args .x .walk .next .at - args .x .come .bytes) 1 (c .before .before .if1 .taken))
 
 advance-requires-2 : tie.Need-advance-requires-2
 advance-requires-2 c κs =
@@ -49,7 +49,7 @@ take-word-spec =
     (tie.spec
     keep-word-requires
     sub-if1
-    fill-sum-requires
+    sum-fill-requires
     advance-requires
     returns
     advance-requires-2

@@ -45,23 +45,19 @@ blocks-written-requires c κs = search needs
 wrapping-add-u32-requires : tie.Need-wrapping-add-u32-requires
 wrapping-add-u32-requires c κs = search needs
 
-span-now-requires : tie.Need-span-now-requires
-span-now-requires c κs = search needs
-
-skip-sum-requires : tie.Need-skip-sum-requires
-skip-sum-requires c κs = search needs
+sum-head-requires : tie.Need-sum-head-requires
+sum-head-requires c κs = search needs
 
 returns : tie.Need-returns
 returns c =
-    let kind-now = c .before .before .before .before .before .before .before .before .before .before .kind-now in
-    let blocks-now = c .before .before .before .before .before .before .before .before .before .blocks-now in
-    let size-now = c .before .before .before .before .before .before .before .before .size-now in
-    let less = c .before .before .before .before .less in
-    let blocks-written = c .before .before .before .blocks-written in
+    let kind-now = c .before .before .before .before .before .before .before .before .before .kind-now in
+    let blocks-now = c .before .before .before .before .before .before .before .before .blocks-now in
+    let size-now = c .before .before .before .before .before .before .before .size-now in
+    let less = c .before .before .before .less in
+    let blocks-written = c .before .before .blocks-written in
     rw (
-      c .skip-sum .ensures,
-      c .before .span-now .ensures,
-      c .before .before .wrapping-add-u32 .ensures,
+      c .sum-head .ensures,
+      c .before .wrapping-add-u32 .ensures,
       blocks-written .ensures,
       less .ensures,
       size-now .ensures,
@@ -84,6 +80,5 @@ pass-chunk-spec =
     cast-t12
     blocks-written-requires
     wrapping-add-u32-requires
-    span-now-requires
-    skip-sum-requires
+    sum-head-requires
     returns)
