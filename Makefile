@@ -61,20 +61,21 @@ build/libtarpaulark.so: $(LIBRARY)
 	mkdir -p build
 	$(CC) -shared -o $@ -Wl,--whole-archive $(LIBRARY) -Wl,--no-whole-archive
 
-build/stack: tests/stack.c include/tarpaulark.h $(LIBRARY)
+build/stack build/unread: build/%: tests/%.c include/tarpaulark.h $(LIBRARY)
 	mkdir -p build
-	$(CC) $(STRICT) $(CFLAGS) -Iinclude -o $@ tests/stack.c $(LIBRARY)
+	$(CC) $(STRICT) $(CFLAGS) -Iinclude -o $@ $< $(LIBRARY)
 
 # The update of the README: stored with power cut and a torn block, then started over.
 demo: build/tarpaulark
 	$(PYTHON) host/demo.py build/tarpaulark
 
-# The tool on examples, bad usage and faults; the stack that each exported function takes; each against the
-# reference, for a minute.
-test: build/tarpaulark build/tarpaulark-checked build/libtarpaulark.so build/stack
+# The tool on examples, bad usage and faults; the stack that each exported function takes; that no data are read where no
+# checksum is stated; each function against the reference, for a minute.
+test: build/tarpaulark build/tarpaulark-checked build/libtarpaulark.so build/stack build/unread
 	$(PYTHON) tests/host.py build/tarpaulark build/tarpaulark-checked
 	bash tests/install.sh
 	build/stack
+	build/unread
 	$(PYTHON) tests/differential.py build/libtarpaulark.so
 
 # Images and boot images that Debian's tools make or read, where they are installed.

@@ -63,9 +63,8 @@ fn turn(x: Pass, piece: &[u8], i: usize, n: usize) -> Pass
     requires { ⌜ Turn x (now piece) i n × (x .come .bytes + n ≤ x .told .length) ⌝ }
     ensures { λ r. ⌜ r ≡ fed x (take n (drop i (now (piece .entry)))) ⌝ }
 {
-    let b = piece[i];
     if x.come.bytes < 28 {
-        return take_header(x, b);
+        return take_header(x, piece[i]);
     }
     if x.come.bytes < x.walk.next.at {
         let kind = kind_now(x);
@@ -78,7 +77,7 @@ fn turn(x: Pass, piece: &[u8], i: usize, n: usize) -> Pass
                 if n == 4 {
                     return settle(take_fill(x, piece, i));
                 }
-                return settle(take_word(x, b));
+                return settle(take_word(x, piece[i]));
             }
             Kind::DontCare => return settle(advance(x, n, x.come.sum)),
             Kind::Unknown => return settle(advance(x, n, x.come.sum)),
@@ -87,7 +86,7 @@ fn turn(x: Pass, piece: &[u8], i: usize, n: usize) -> Pass
     if n == 12 {
         return take_head(x, piece, i);
     }
-    gather(x, b)
+    gather(x, piece[i])
 }
 
 // A piece that is no more than announced, a stretch at a time.
