@@ -122,6 +122,12 @@ void say_number(const char *name, uint64_t value)
     printf("%" PRIu64, value);
 }
 
+void say_once_more(const char *name, uint64_t value)
+{
+    if (!answer.json)
+        say_number(name, value);
+}
+
 void say_flag(const char *name, bool set)
 {
     if (!answer.json && !set)

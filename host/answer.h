@@ -24,6 +24,9 @@ void say_letter(const char *name, char letter);
 void say_number(const char *name, uint64_t value);
 void say_flag(const char *name, bool set);
 
+/* A number that text says in two places and the object, which has a name only once, in the other. */
+void say_once_more(const char *name, uint64_t value);
+
 /* Members in columns of so many characters; the name shows in the object alone. */
 void say_column(const char *name, int width, uint64_t value);
 void say_name_column(const char *name, int width, const char *text);

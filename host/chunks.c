@@ -2,22 +2,42 @@
 
 #include "answer.h"
 
+#include <inttypes.h>
+#include <stdio.h>
+
 static const char changed[] = "changed while it was read; run the same command again";
+
+/* Begins to walk an image that was accepted for a partition of so many bytes. */
+static void start_walk(struct walk *walk, const struct mapped *image, uint64_t room)
+{
+    *walk = (struct walk){.image = image};
+    if (tarpaulark_header(image->at, image->length, room, walk->header) != 0)
+        failed(image->path, changed, 0);
+    walk->left = walk->header[TARPAULARK_HEADER_CHUNKS];
+    walk->at = walk->header[TARPAULARK_HEADER_START];
+    walk->remarks.checksum = walk->header[TARPAULARK_HEADER_CHECKSUM];
+}
 
 uint32_t begin_walk(
     struct walk *walk, const struct mapped *image, uint64_t room, uint64_t answer[TARPAULARK_JUDGE_ANSWER])
 {
     uint32_t number = tarpaulark_judge(image->at, image->length, room, answer);
 
-    if (number != 0)
-        return number;
-    if (tarpaulark_header(image->at, image->length, room, walk->header) != 0)
-        failed(image->path, changed, 0);
-    walk->image = image;
-    walk->left = walk->header[TARPAULARK_HEADER_CHUNKS];
-    walk->at = walk->header[TARPAULARK_HEADER_START];
-    walk->first = 0;
-    return 0;
+    if (number == 0)
+        start_walk(walk, image, room);
+    return number;
+}
+
+/* Counts the chunk of unknown type where the walk is. */
+static void count_unknown(struct walk *walk, uint64_t blocks)
+{
+    const uint8_t *type = walk->image->at + walk->at;
+
+    walk->remarks.blocks += blocks;
+    if (walk->remarks.chunks++ != 0)
+        return;
+    walk->remarks.at = walk->at;
+    walk->remarks.type = type[0] | (unsigned)type[1] << 8;
 }
 
 bool next_chunk(struct walk *walk, struct chunk *chunk)
@@ -32,6 +52,8 @@ bool next_chunk(struct walk *walk, struct chunk *chunk)
     chunk->first = walk->first;
     chunk->blocks = (uint32_t)answer[TARPAULARK_CHUNK_BLOCKS];
     chunk->data = answer[TARPAULARK_CHUNK_DATA];
+    if (chunk->kind == TARPAULARK_UNKNOWN)
+        count_unknown(walk, chunk->blocks);
     walk->at = answer[TARPAULARK_CHUNK_NEXT];
     walk->first = (uint32_t)answer[TARPAULARK_CHUNK_FIRST];
     walk->left--;
@@ -48,8 +70,48 @@ void expect_read(const struct mapped *image)
     expect_unchanged(image, changed);
 }
 
-void say_unchecked(uint64_t checksum)
+struct remarks remarks_on(const struct mapped *image)
 {
-    if (checksum == 0)
+    struct chunk chunk;
+    struct walk walk;
+
+    start_walk(&walk, image, UINT64_MAX);
+    while (next_chunk(&walk, &chunk))
+        continue;
+    expect_read(image);
+    return walk.remarks;
+}
+
+void say_counts(const uint64_t answer[TARPAULARK_JUDGE_ANSWER])
+{
+    say_number("written", answer[TARPAULARK_COUNT_WRITTEN]);
+    say_number("skipped", answer[TARPAULARK_COUNT_DONT_CARE]);
+    say_number("unknown", answer[TARPAULARK_COUNT_UNKNOWN]);
+}
+
+static const char *plural(uint64_t number)
+{
+    return number == 1 ? "" : "s";
+}
+
+static void say_unknown(const struct remarks *remarks)
+{
+    char kept[64], text[256];
+
+    snprintf(kept, sizeof kept, "%" PRIu64 " block%s kept as %s", remarks->blocks, plural(remarks->blocks),
+             remarks->blocks == 1 ? "it was" : "they were");
+    if (remarks->chunks == 0)
+        snprintf(text, sizeof text, "chunks of unknown type: %s", kept);
+    else
+        snprintf(text, sizeof text, "%" PRIu64 " chunk%s of unknown type: %s; the first is 0x%04X at offset %" PRIu64,
+                 remarks->chunks, plural(remarks->chunks), kept, remarks->type, remarks->at);
+    advise("foreign", text);
+}
+
+void say_remarks(const struct remarks *remarks)
+{
+    if (remarks->checksum == 0)
         advise("unchecked", "no checksum is stated: the data were not checked");
+    if (remarks->chunks != 0 || remarks->blocks != 0)
+        say_unknown(remarks);
 }

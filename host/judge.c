@@ -3,13 +3,12 @@
 #include "commands.h"
 #include "passes.h"
 
-static enum status say_accepted(const uint64_t *answer, uint64_t checksum)
+static enum status say_accepted(const uint64_t *answer, struct remarks remarks)
 {
     say_word("ok");
-    say_number("written", answer[TARPAULARK_WRITTEN]);
-    say_number("skipped", answer[TARPAULARK_SKIPPED]);
+    say_counts(answer);
     end_line();
-    say_unchecked(checksum);
+    say_remarks(&remarks);
     return DONE;
 }
 
@@ -17,13 +16,12 @@ static enum status judge_file(const char *path, uint64_t room)
 {
     uint64_t answer[TARPAULARK_JUDGE_ANSWER];
     struct mapped image = read_image(path);
-    struct walk walk;
-    uint32_t number = begin_walk(&walk, &image, room, answer);
+    uint32_t number = tarpaulark_judge(image.at, image.length, room, answer);
 
     expect_read(&image);
     if (number != 0)
         return refuse(number, answer[TARPAULARK_PLACE]);
-    return say_accepted(answer, walk.header[TARPAULARK_HEADER_CHECKSUM]);
+    return say_accepted(answer, remarks_on(&image));
 }
 
 static enum status judge_input(uint64_t length, uint64_t room)
@@ -36,7 +34,7 @@ static enum status judge_input(uint64_t length, uint64_t room)
         expect_read(&source.file);
     if (number != 0)
         return refuse(number, pass.answer[TARPAULARK_PLACE]);
-    return say_accepted(pass.answer, stated_checksum(&pass));
+    return say_accepted(pass.answer, remarks_by(&source, &pass));
 }
 
 enum status judge(const struct request *request)

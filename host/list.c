@@ -34,11 +34,10 @@ static void say_totals(const uint64_t totals[KINDS], const uint64_t *answer)
     say_number("raw", totals[TARPAULARK_RAW]);
     say_number("fill", totals[TARPAULARK_FILL]);
     say_number("skip", totals[TARPAULARK_DONT_CARE]);
-    say_number("unknown", totals[TARPAULARK_UNKNOWN]);
+    say_once_more("unknown", totals[TARPAULARK_UNKNOWN]);
     end_line();
     say_word("ok");
-    say_number("written", answer[TARPAULARK_WRITTEN]);
-    say_number("skipped", answer[TARPAULARK_SKIPPED]);
+    say_counts(answer);
     end_line();
 }
 
@@ -63,6 +62,6 @@ enum status list(const struct request *request)
     close_list();
     expect_read(&image);
     say_totals(totals, answer);
-    say_unchecked(walk.header[TARPAULARK_HEADER_CHECKSUM]);
+    say_remarks(&walk.remarks);
     return DONE;
 }

@@ -20,7 +20,8 @@ static const struct command {
     {"judge", 2, 2, LENGTH, judge,
      "judge IMAGE PARTITION-LENGTH\n"
      "       tarpaulark judge - PARTITION-LENGTH --length BYTES",
-     "says whether a sparse image is accepted for a partition of so many bytes"},
+     "says whether a sparse image is accepted for a partition of so many bytes, and how\n"
+     "          many of its blocks are written, skipped and unknown"},
     {"store", 2, 2, DRY_RUN | LIMIT | LENGTH, store,
      "store IMAGE PARTITION [--limit BLOCKS] [--dry-run]\n"
      "       tarpaulark store - PARTITION --length BYTES",
@@ -58,6 +59,11 @@ static const char options_help[] =
     "come due before is stored: send the right image from its start.\n"
     "\n"
     "Where standard error is a terminal, store and what reads - show there how far they are.\n"
+    "\n"
+    "Of an accepted image's blocks, `written` are those of raw and fill chunks, `skipped` those\n"
+    "of don't care chunks alone, `unknown` those of chunks of any other type, which are kept as\n"
+    "the skipped ones are. Where there are such chunks, judge, store and list say on standard\n"
+    "error how many, and type and offset of the first; of - only how many blocks they have.\n"
     "\n"
     "A header checksum of 0 states none: such an image is accepted without its data being\n"
     "checked, which judge, store and list say on standard error.\n"

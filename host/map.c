@@ -12,22 +12,21 @@ static const struct sign {
     char letter;
     const char *meaning;
 } signs[] = {
-    {'#', "raw"}, {'=', "fill"}, {'.', "kept"}, {'?', "unknown"},
-    {'+', "raw and fill"}, {'%', "partly kept"},
+    {'#', "raw"}, {'=', "fill"}, {'.', "kept"}, {'?', "unknown, kept too"},
+    {'+', "raw and fill"}, {'%', "partly kept"}, {'!', "partly unknown"},
 };
 
-/* One kind of block has its own sign; of several, whether all are stored, some, or none. */
+/* One kind of block has its own sign; of several, whether some are unknown, else whether all are stored. */
 static char sign_of(const uint64_t parts[KINDS])
 {
     bool raw = parts[TARPAULARK_RAW] != 0, fill = parts[TARPAULARK_FILL] != 0;
-    bool unknown = parts[TARPAULARK_UNKNOWN] != 0;
-    bool kept = parts[TARPAULARK_DONT_CARE] != 0 || unknown;
+    bool kept = parts[TARPAULARK_DONT_CARE] != 0;
 
-    if (!kept)
-        return raw && fill ? '+' : raw ? '#' : '=';
-    if (raw || fill)
-        return '%';
-    return unknown ? '?' : '.';
+    if (parts[TARPAULARK_UNKNOWN] != 0)
+        return raw || fill || kept ? '!' : '?';
+    if (kept)
+        return raw || fill ? '%' : '.';
+    return raw && fill ? '+' : raw ? '#' : '=';
 }
 
 /* What a cell is, and what the signs mean that were drawn. */

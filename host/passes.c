@@ -1,7 +1,6 @@
 #include "passes.h"
 
 #include "answer.h"
-#include "chunks.h"
 #include "progress.h"
 
 #include <errno.h>
@@ -10,7 +9,7 @@
 #include <unistd.h>
 
 /* The bytes of a piece at most, and where the state of a pass has the checksum that the file header states. */
-enum { PIECE = 16384, CHECKSUM_AT = 60 + 24 };
+enum { PIECE = 16384, CHECKSUM_AT = 68 + 24 };
 
 static const char unread[] = "cannot be read to its end; see to where it comes from, and run the same command again";
 
@@ -35,7 +34,7 @@ struct source input_source(uint64_t length)
 
 struct source file_source(const struct mapped *file)
 {
-    struct source source = {.file = *file, .length = file->length, .start = 0};
+    struct source source = {.file = *file, .length = file->length, .start = 0, .in_memory = true};
 
     return source;
 }
@@ -105,7 +104,10 @@ uint32_t store_pieces(const struct source *source, const struct mapped *partitio
     return run_pass(source, pass, partition);
 }
 
-uint32_t stated_checksum(const struct pass *pass)
+struct remarks remarks_by(const struct source *source, const struct pass *pass)
 {
-    return word_at(pass->state + CHECKSUM_AT);
+    struct remarks remarks = {
+        .checksum = word_at(pass->state + CHECKSUM_AT), .blocks = pass->answer[TARPAULARK_COUNT_UNKNOWN]};
+
+    return source->in_memory ? remarks_on(&source->file) : remarks;
 }

@@ -2,6 +2,7 @@
 #ifndef PASSES_H
 #define PASSES_H
 
+#include "chunks.h"
 #include "commands.h"
 #include "files.h"
 #include "tarpaulark.h"
@@ -14,6 +15,7 @@ struct source {
     struct mapped file;
     uint64_t length; /* as announced */
     off_t start;     /* where it begins; less than 0 where it can be read only once */
+    bool in_memory;  /* it is mapped as well */
 };
 
 /* A pass: its state, and what it answered last. */
@@ -37,7 +39,8 @@ uint32_t judge_pieces(const struct source *source, uint64_t room, struct pass *p
 /* Reads an image and stores it on a partition as it comes; 0 or the refusal, before which some may be stored. */
 uint32_t store_pieces(const struct source *source, const struct mapped *partition, struct pass *pass);
 
-/* The checksum that the header of an accepted image states; 0 where none is. */
-uint32_t stated_checksum(const struct pass *pass);
+/* What to remark on an image that a pass accepted. Of unknown chunks a pass counts the blocks alone; where the image
+   is in memory too, that is walked. */
+struct remarks remarks_by(const struct source *source, const struct pass *pass);
 
 #endif

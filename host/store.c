@@ -63,17 +63,14 @@ static void list_kept(struct walk *walk, uint64_t limit, uint64_t length)
     close_list();
 }
 
-static void say_stored(const struct request *request, const uint64_t *answer, uint64_t checksum)
+static void say_stored(const struct request *request, const uint64_t *answer)
 {
     say_word("ok");
-    if (request->has_limit) {
+    if (request->has_limit)
         say_number("stored", answer[TARPAULARK_STORED]);
-    } else {
-        say_number("written", answer[TARPAULARK_WRITTEN]);
-        say_number("skipped", answer[TARPAULARK_SKIPPED]);
-    }
+    else
+        say_counts(answer);
     end_line();
-    say_unchecked(checksum);
 }
 
 static enum status try_dry(
@@ -86,14 +83,15 @@ static enum status try_dry(
     expect_read(image);
     if (number != 0)
         return refuse(number, answer[TARPAULARK_PLACE]);
-    limit = answer[TARPAULARK_WRITTEN];
+    limit = answer[TARPAULARK_COUNT_WRITTEN];
     if (request->has_limit && request->limit < limit)
         limit = answer[TARPAULARK_STORED] = request->limit;
-    say_stored(request, answer, walk.header[TARPAULARK_HEADER_CHECKSUM]);
+    say_stored(request, answer);
     list_kept(&walk, limit, partition->length);
     expect_read(image);
     say_line("dry run: nothing is stored");
     say_only_json("note", "dry run: nothing is stored");
+    say_remarks(&walk.remarks);
     return DONE;
 }
 
@@ -106,10 +104,10 @@ static void put_on_disk(const struct mapped *partition)
 static enum status store_now(
     const struct request *request, const struct mapped *image, const struct mapped *partition)
 {
-    uint64_t answer[TARPAULARK_STORE_ANSWER], header[TARPAULARK_HEADER_ANSWER];
+    uint64_t answer[TARPAULARK_STORE_ANSWER];
+    struct remarks remarks;
     uint32_t number;
 
-    tarpaulark_header(image->at, image->length, partition->length, header);
     if (request->has_limit)
         number = tarpaulark_store_limited(
             image->at, image->length, partition->at, partition->length, request->limit, answer);
@@ -122,7 +120,9 @@ static enum status store_now(
     if (number != 0)
         return refuse(number, answer[TARPAULARK_PLACE]);
     expect_in_place(partition);
-    say_stored(request, answer, header[TARPAULARK_HEADER_CHECKSUM]);
+    remarks = remarks_on(image);
+    say_stored(request, answer);
+    say_remarks(&remarks);
     return DONE;
 }
 
@@ -133,7 +133,7 @@ static enum status refuse_late(const struct pass *pass, uint32_t number)
 
     if (number > TARPAULARK_BAD_ROOM)
         advise("partition", "what had come due before is stored; send the right image from its start: stored in full,"
-                            " it makes good all that it stores, but not what it skips");
+                            " it makes good all that it stores, but not what it keeps");
     return status;
 }
 
@@ -154,6 +154,7 @@ static uint32_t judge_first(const struct source *source, const struct mapped *pa
 static enum status store_by_passes(
     const struct request *request, const struct source *source, const struct mapped *partition)
 {
+    struct remarks remarks;
     struct pass pass;
     uint32_t number = judge_first(source, partition, &pass);
 
@@ -170,7 +171,9 @@ static enum status store_by_passes(
     if (number != 0)
         return refuse_late(&pass, number);
     expect_in_place(partition);
-    say_stored(request, pass.answer, stated_checksum(&pass));
+    remarks = remarks_by(source, &pass);
+    say_stored(request, pass.answer);
+    say_remarks(&remarks);
     return DONE;
 }
 

@@ -33,12 +33,12 @@
  * How long it takes
  *
  * Judging takes time in proportion to the image's length, whatever it says in its
- * header: every chunk takes at least 12 bytes of the image, and one of fill or
- * skipped blocks costs at most a fixed number of steps, however many blocks it
- * names. Storing takes that, and time in proportion to the bytes that it stores.
- * A pass takes the same, and a fixed number of steps for each call. Writing takes
- * time in proportion to the flat bytes, which are read three times at most. All
- * else takes a fixed number of steps.
+ * header: every chunk takes at least 12 bytes of the image, and any but a raw one
+ * costs at most a fixed number of steps, however many blocks it names. Storing
+ * takes that, and time in proportion to the bytes that it stores. A pass takes the
+ * same, and a fixed number of steps for each call. Writing takes time in proportion
+ * to the flat bytes, which are read three times at most. All else takes a fixed
+ * number of steps.
  *
  * What a restart assumes
  *
@@ -58,11 +58,11 @@
 #include <stdint.h>
 
 /* The version of the header, the library and the host tool; it stands only here. */
-#define TARPAULARK_VERSION "0.3.0"
+#define TARPAULARK_VERSION "0.4.0"
 
 /* Lengths of the answers, of a slot record, and of the state of a pass. */
-#define TARPAULARK_JUDGE_ANSWER 3
-#define TARPAULARK_STORE_ANSWER 3
+#define TARPAULARK_JUDGE_ANSWER 4
+#define TARPAULARK_STORE_ANSWER 4
 #define TARPAULARK_STORE_LIMITED_ANSWER 2
 #define TARPAULARK_WRITE_ANSWER 2
 #define TARPAULARK_HEADER_ANSWER 6
@@ -71,8 +71,8 @@
 #define TARPAULARK_SLOTS_ANSWER 2
 #define TARPAULARK_RECORD 17
 #define TARPAULARK_PIECE_ANSWER 1
-#define TARPAULARK_FINISH_ANSWER 3
-#define TARPAULARK_PASS 104
+#define TARPAULARK_FINISH_ANSWER 4
+#define TARPAULARK_PASS 112
 
 /* The most bytes that the image of flat bytes takes at a block size above 0. */
 #define TARPAULARK_WRITE_BOUND(flat_len, block_size) \
@@ -150,13 +150,15 @@ enum tarpaulark_refusal {
     TARPAULARK_BAD_CONFIRM = 33
 };
 
-/* Positions in the answers of judge, store, store_limited and write. */
+/* Positions in the answers of judge, store, a pass, store_limited and write. The
+   counts are those of judge, store and the finishing of a pass; see judge. */
 enum {
-    TARPAULARK_PLACE = 0,   /* of the refusal, in each of them and in chunk's */
-    TARPAULARK_WRITTEN = 1, /* judge, store: blocks of raw and fill chunks */
-    TARPAULARK_SKIPPED = 2, /* judge, store: blocks of all other chunks */
-    TARPAULARK_STORED = 1,  /* store_limited: blocks stored */
-    TARPAULARK_LENGTH = 1   /* write: the image's length */
+    TARPAULARK_PLACE = 0,           /* of the refusal, in each of them and in chunk's */
+    TARPAULARK_COUNT_WRITTEN = 1,   /* blocks of raw and fill chunks */
+    TARPAULARK_COUNT_DONT_CARE = 2, /* blocks of don't care chunks */
+    TARPAULARK_COUNT_UNKNOWN = 3,   /* blocks of chunks of unknown type */
+    TARPAULARK_STORED = 1,          /* store_limited: blocks stored */
+    TARPAULARK_LENGTH = 1           /* write: the image's length */
 };
 
 /* Positions in the answer of header. */
@@ -169,7 +171,8 @@ enum {
     TARPAULARK_HEADER_HEAD = 5      /* chunk header size */
 };
 
-/* Positions in the answer of chunk, after the place, and kinds of a chunk. */
+/* Positions in the answer of chunk, after the place, and kinds of a chunk, which
+   go by its type. */
 enum {
     TARPAULARK_CHUNK_KIND = 1,   /* one of the four kinds below */
     TARPAULARK_CHUNK_BLOCKS = 2, /* its blocks */
@@ -178,10 +181,10 @@ enum {
     TARPAULARK_CHUNK_FIRST = 5   /* first block of the next chunk */
 };
 enum {
-    TARPAULARK_RAW = 0,
-    TARPAULARK_FILL = 1,
-    TARPAULARK_DONT_CARE = 2,
-    TARPAULARK_UNKNOWN = 3
+    TARPAULARK_RAW = 0,       /* 0xCAC1 */
+    TARPAULARK_FILL = 1,      /* 0xCAC2 */
+    TARPAULARK_DONT_CARE = 2, /* 0xCAC3 */
+    TARPAULARK_UNKNOWN = 3    /* any other */
 };
 
 /* Positions in the answer of locate: the version; then section number s has its
@@ -220,11 +223,18 @@ extern "C" {
 
 /*
  * Judges a sparse image for a partition of partition_len bytes. Reads the image.
- * Refusals: 1 to 11. Skipped blocks count as zeros in the checksum, which depends
- * on the image alone. A header checksum of 0 states none, and none is worked out
- * then: damage to what an image stores goes unnoticed, unless its structure breaks.
- * answer: place; blocks written (raw and fill); blocks skipped (all other). The
- * last two add up to the header's total.
+ * Refusals: 1 to 11. Blocks that are not stored count as zeros in the checksum,
+ * which depends on the image alone. A header checksum of 0 states none, and none is
+ * worked out then: damage to what an image stores goes unnoticed, unless its
+ * structure breaks.
+ * answer: place; blocks written, which are those of raw and fill chunks; blocks of
+ * don't care chunks; blocks of chunks of unknown type, which is any but 0xCAC1,
+ * 0xCAC2 and 0xCAC3. The three counts add up to the header's total.
+ *
+ * A chunk of unknown type is no refusal. It is passed over with its data, and its
+ * blocks are kept, as those of a don't care chunk are; but it is a sign that the
+ * image holds what this library does not understand. One of 0 blocks adds nothing
+ * to the count: a walk by tarpaulark_chunk shows it.
  */
 uint32_t tarpaulark_judge(
     const uint8_t *image, size_t image_len, uint64_t partition_len,
@@ -245,7 +255,7 @@ uint32_t tarpaulark_store(
 
 /*
  * Judges the whole image, then stores its first blocks, in order, up to the limit
- * or the number of blocks that it writes, the lesser. A skipped block does not
+ * or the number of blocks that it writes, the lesser. Only raw and fill blocks
  * count. Every byte of later blocks is kept. After any cut, storing the same
  * images from the first on leaves what it would have left without the cut.
  * Refusals: as for tarpaulark_judge.
@@ -259,8 +269,8 @@ uint32_t tarpaulark_store_limited(
  * Writes the sparse image of flat bytes to the first bytes of out. Output bytes
  * past the image, and all of them after a refusal, keep what they held. A block
  * whose 4-byte words are all equal becomes fill, any other raw, in runs as long as
- * they can be; nothing is skipped. The header states the true checksum; where that
- * is 0 it reads as none stated.
+ * they can be; there are no other chunks. The header states the true checksum;
+ * where that is 0 it reads as none stated.
  * Refusals, in this order: 5, 13, 12.
  * answer: place, which is always 0; the image's length.
  */
@@ -287,7 +297,9 @@ uint32_t tarpaulark_header(
  * Refusals: 7, 8, 9 (a passed total).
  * answer: place (`at` for a refusal, else 0); kind; blocks; offset of its data;
  * offset of the next chunk; first block of the next chunk. After a refusal all
- * but the place are 0.
+ * but the place are 0. The kind says whether the type is known: it is
+ * TARPAULARK_UNKNOWN exactly when it is not, and the type itself is the number in
+ * the two bytes at `at`, low byte first.
  */
 uint32_t tarpaulark_chunk(
     const uint8_t *image, size_t image_len, uint64_t at, uint32_t first,
@@ -337,10 +349,12 @@ uint32_t tarpaulark_chunk(
  *    at 40 (8)   where the next chunk begins in the image
  *    at 48 (4)   its first block
  *    at 52 (4)   how many chunks are still to be read
- *    at 56 (4)   blocks that those which were read write
- *    at 60 (28)  the known fields of the file header, as far as they have come
- *    at 88 (12)  those of the chunk header that came last
- *    at 100 (4)  the word of a fill chunk
+ *    at 56 (4)   blocks of the raw and fill chunks that were read
+ *    at 60 (4)   blocks of the don't care chunks that were
+ *    at 64 (4)   blocks of the chunks of unknown type that were
+ *    at 68 (28)  the known fields of the file header, as far as they have come
+ *    at 96 (12)  those of the chunk header that came last
+ *    at 108 (4)  the word of a fill chunk
  *
  * Any bytes at all are a state: no call does anything outside what is lent to it,
  * or fails to end, whatever the state holds.

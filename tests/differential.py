@@ -13,7 +13,7 @@ and ends with 1, also when a call crashes or does not end.
 A function of the library takes its arguments in order, then a pointer to the
 numbers it answers with, whose count is fixed; one that answers none takes no such
 pointer.  Bytes are a pointer and a length; a slot record is a pointer to its 17
-bytes, and the state of a pass to its 104.  It returns 0 or the number of its
+bytes, and the state of a pass to its 112.  It returns 0 or the number of its
 refusal; beginning a pass returns nothing.  include/tarpaulark.h has the
 declarations.
 """
@@ -57,12 +57,11 @@ EDGES = (0, 1, 2, 3, 4, 7, 8, 11, 12, 13, 16, 28, 255, 256, 65532, 65535, 65536,
 EDGES += tuple(2**k + d for k in (30, 31, 32) for d in (-4, -1, 0, 1) if 2**k + d < 2**32)
 ROOM = 2**64 - 1
 RECORD_LENGTH = 17
-STATE_LENGTH = 104
-COME_AT, SUM_AT, HEAD_AT = 28, 36, 60
+STATE_LENGTH = 112
+COME_AT, SUM_AT, COUNTS_AT, HEAD_AT = 28, 36, 56, 68
 LARGEST_LENT = 40000
 REFUSED = 3
-CHUNK_KINDS = {sparse.TYPE_RAW: 0, sparse.TYPE_FILL: 1, sparse.TYPE_DONT_CARE: 2}
-UNKNOWN_KIND = 3
+CHUNK_KINDS = {sparse.RAW: 0, sparse.FILL: 1, sparse.DONT_CARE: 2, sparse.UNKNOWN: 3}
 
 Argument = Union[bytes, int]
 Expected = Union[bytes, Dict[int, bytes]]
@@ -239,7 +238,7 @@ def wide_image(rng: random.Random) -> bytes:
         plans.append(pick(rng, (
             build.fill(some_bytes(rng, 4), blocks),
             build.skip(blocks),
-            build.unknown(pick(rng, cases_sparse.OTHER_TYPES), blocks, some_bytes(rng, 8)),
+            build.unknown(cases_sparse.other_type(rng), blocks, some_bytes(rng, 8)),
             build.raw(some_bytes(rng, 2 * size) if size < 600 else b"", size),
         )))
     return build.sparse_image(size, plans)
@@ -268,6 +267,7 @@ def restated(rng: random.Random, image: bytes) -> bytes:
 def sparse_input(rng: random.Random, narrow: bool) -> bytes:
     """A sparse image, whole or damaged, or bytes that are none."""
     makers = [cases_sparse.random_image] * 2 + [cases_store.random_image] * 5 + [zero_sum_image]
+    makers += [cases_store.unknown_image] * 3
     image = pick(rng, makers if narrow else makers + [wide_image] * 2)(rng)
     kind = below(rng, 8)
     if kind == 0:
@@ -312,7 +312,7 @@ def any_record(rng: random.Random) -> Record:
 # The functions.
 
 def judge_call(rng: random.Random) -> Call:
-    """`judge`: place, written, skipped."""
+    """`judge`: place, written, don't care, unknown."""
     image = sparse_input(rng, False)
     length = pick(rng, (partition_length(rng, image), ROOM, rng.getrandbits(64)))
     number, *out = cases_sparse.verdict_values(sparse.judge(image, length))
@@ -392,7 +392,7 @@ def chunk_call(rng: random.Random) -> Call:
     chunk = sparse.read_chunk(image, header, at, first)
     if isinstance(chunk, sparse.Refusal):
         return Call((image, at, first), chunk.number, (chunk.place, 0, 0, 0, 0, 0), (image,))
-    kind = CHUNK_KINDS.get(fields.read(image, at, 2), UNKNOWN_KIND)
+    kind = CHUNK_KINDS[chunk.kind]
     out = (0, kind, chunk.blocks, chunk.data_at, chunk.end, first + chunk.blocks)
     return Call((image, at, first), 0, out, (image,))
 
@@ -462,9 +462,9 @@ def slots_call(operation: int, takes_slot: bool) -> Callable[[random.Random], Ca
 
 BEGIN = Function("pass_begin", (64, 64, "state"), 0, returns=False)
 JUDGE_PIECE = Function("pass_judge_piece", ("state", "bytes"), 1)
-JUDGE_FINISH = Function("pass_judge_finish", ("state",), 3)
+JUDGE_FINISH = Function("pass_judge_finish", ("state",), 4)
 STORE_PIECE = Function("pass_store_piece", ("state", "bytes", "bytes"), 1)
-STORE_FINISH = Function("pass_store_finish", ("state", "bytes"), 3)
+STORE_FINISH = Function("pass_store_finish", ("state", "bytes"), 4)
 PASS_FUNCTIONS = (BEGIN, JUDGE_PIECE, JUDGE_FINISH, STORE_PIECE, STORE_FINISH)
 
 
@@ -503,18 +503,19 @@ def is_sum_known(state: passes.State) -> bool:
     it is open when the zeros of a skipped chunk go in."""
     if not sparse.is_checksum_stated(state.header):
         return True
-    in_skipped = state.waits_for == passes.CHUNK_END and state.chunk.kind == sparse.SKIP
+    in_skipped = state.waits_for == passes.CHUNK_END and not sparse.is_written(state.chunk)
     return not in_skipped and not is_refused_in_piece(state)
 
 
 def state_fields(state: passes.State) -> Dict[int, bytes]:
     """What the header says of a state: the lengths told, the refusal and its place, the
-    file header as far as it came, how many bytes came, and the checksum's state.  The
-    last two are left open for a refusal of 01's, save for the state where no checksum
-    is stated."""
+    three counts, the file header as far as it came, how many bytes came, and the
+    checksum's state.  The last two are left open for a refusal of 01's, save for the
+    state where no checksum is stated."""
     refusal = state.refusal or sparse.Refusal(0, 0)
     given = u32(refusal.number) + u64(refusal.place)
     known = {0: u64(state.length) + u64(state.room) + given, HEAD_AT: state.head}
+    known[COUNTS_AT] = u32(state.written) + u32(state.dont_care) + u32(state.unknown)
     if not is_refused_in_piece(state):
         known[COME_AT] = u64(state.come)
     if is_sum_known(state):
@@ -528,12 +529,15 @@ def many_bytes(rng: random.Random, count: int) -> bytes:
 
 
 def long_image(rng: random.Random) -> bytes:
-    """An image with some thousand bytes of raw data and headers of any length."""
+    """An image with some thousand bytes of data, raw or unknown, and headers of any length."""
     size = pick(rng, (256, 1024, 4096))
     plans = []
     for _ in range(1 + below(rng, 3)):
         raw = build.raw(many_bytes(rng, size * (1 + below(rng, 3))), size)
-        plans.append(pick(rng, (raw, raw, build.fill(some_bytes(rng, 4), 1), build.skip(1))))
+        data = many_bytes(rng, 4 * below(rng, size))
+        unknown = build.unknown(cases_sparse.other_type(rng), 1 + below(rng, 3), data)
+        fill = build.fill(some_bytes(rng, 4), 1)
+        plans.append(pick(rng, (raw, raw, fill, build.skip(1), unknown)))
     return build.sparse_image(
         size,
         plans,
@@ -633,7 +637,7 @@ def forged_calls(rng: random.Random) -> Calls:
         known = kept_sum(state)
         call = Call((state,) + lent.buffers(), None, None, (known,) + kept.buffers())
         if number != 0:
-            out = (place, 0, 0)[:lent.function().answers]
+            out = (place, 0, 0, 0)[:lent.function().answers]
             known[16] = u32(number) + u64(place)
             call = call._replace(number=number, out=out)
         outcome = yield lent.function(), call
@@ -655,8 +659,8 @@ def single(
 
 
 KINDS = (
-    single("judge", ("bytes", 64), 3, judge_call),
-    single("store", ("bytes", "bytes"), 3, store_call),
+    single("judge", ("bytes", 64), 4, judge_call),
+    single("store", ("bytes", "bytes"), 4, store_call),
     single("store_limited", ("bytes", "bytes", 64), 2, store_limited_call),
     single("write", ("bytes", 32, "bytes"), 2, write_call),
     single("header", ("bytes", 64), 6, header_call),

@@ -57,18 +57,27 @@ PLANS = (
     build.unknown(7, 1, b"more"), build.raw(b"", 4), build.fill(bytes(4), 1), build.skip(1),
 )
 ALL_KINDS = build.sparse_image(4, PLANS)
+HOLLOW = build.sparse_image(4, [build.fill(b"\xFF" * 4, 1), build.unknown(0xCAC0, 0), build.skip(2)])
+STRANGE = build.sparse_image(4, [
+    build.skip(1), build.unknown(0xFFFF, 0, b"data"), build.raw(b"abcd", 4), build.unknown(0xCAC4, 3),
+    build.fill(b"efgh", 1), build.unknown(0, 2, b"moredata"),
+])
 
 FILES: Dict[str, bytes] = {
     "p2": build.two_chunks(),
     "p6": build.two_chunks() + b"\0",
+    "p7": build.two_chunks(0xCAC5),
     "p8": build.two_chunks(checksum=0),
     "wrong": build.two_chunks(checksum=1),
     "kinds": ALL_KINDS,
+    "hollow": HOLLOW,
+    "strange": STRANGE,
     "unsummed": build.sparse_image(4, PLANS, checksum=0),
     "none": b"",
     "none2": b"",
     "nothing": build.sparse_image(4096, []),
     "part": b"abcdefghijkl",
+    "part7": b"abcdefghijkl",
     "cut": b"abcdefghijkl",
     "long": b"long" * 12,
     "flat": b"\xFF" * 4 + bytes(12),
@@ -88,28 +97,47 @@ first block kind        blocks       from byte     before byte fill word
           8 fill             1              32              36 0x00000000
           9 skip             1              36              40
 blocks raw 2 fill 4 skip 3 unknown 1
-ok written 6 skipped 4"""
+ok written 6 skipped 3 unknown 1"""
+
+LISTED_P7 = """block 4 total 3 chunks 2 checksum 0xffffffff
+first block kind        blocks       from byte     before byte fill word
+          0 fill             1               0               4 0xffffffff
+          1 unknown          2               4              12
+blocks raw 0 fill 1 skip 0 unknown 2
+ok written 1 skipped 0 unknown 2"""
+
+LISTED_HOLLOW = """block 4 total 3 chunks 3 checksum 0xffffffff
+first block kind        blocks       from byte     before byte fill word
+          0 fill             1               0               4 0xffffffff
+          1 unknown          0               4               4
+          1 skip             2               4              12
+blocks raw 0 fill 1 skip 2 unknown 0
+ok written 1 skipped 2 unknown 0"""
 
 DRAWN = """block 4 total 10 cell 1
          0  ##===..?=.
-a cell is 1 block:  # raw  = fill  . kept  ? unknown
+a cell is 1 block:  # raw  = fill  . kept  ? unknown, kept too
 blocks raw 2 fill 4 kept 3 unknown 1"""
 
-DRY = """ok written 6 skipped 4
+DRY = """ok written 6 skipped 3 unknown 1
 kept from 20 before 32
 kept from 36 before 48
 dry run: nothing is stored"""
 
 CASES = (
-    Case("judge p2 12", 0, "ok written 1 skipped 2"),
+    Case("judge p2 12", 0, "ok written 1 skipped 2 unknown 0"),
     Case("judge p2 11", 1, "refused 6 at 0"),
     Case("judge p6 12", 1, "refused 10 at 56"),
-    Case("judge p8 12", 0, "ok written 1 skipped 2"),
+    Case("judge p7 12", 0, "ok written 1 skipped 0 unknown 2"),
+    Case("judge p7 11", 1, "refused 6 at 0"),
+    Case("judge p8 12", 0, "ok written 1 skipped 2 unknown 0"),
+    Case("judge hollow 12", 0, "ok written 1 skipped 2 unknown 0"),
+    Case("judge strange 32", 0, "ok written 2 skipped 1 unknown 5"),
     Case("judge wrong 12", 1, "refused 11 at 24"),
     Case("judge none 0", 1, "refused 1 at 0"),
     Case("judge p2 18446744073709551616", 2, ""),
     Case("judge p2 -1", 2, ""),
-    Case("judge -- p2 12", 0, "ok written 1 skipped 2"),
+    Case("judge -- p2 12", 0, "ok written 1 skipped 2 unknown 0"),
     Case("judge missing 12", 3, ""),
     Case("judge p2", 2, ""),
     Case("judge p2 12 --limit 1", 2, ""),
@@ -120,8 +148,9 @@ CASES = (
     Case("judge - --length 56", 2, ""),
     Case("judge p2 12 --length 56", 2, ""),
     Case("judge ./- 12 --length 56", 2, ""),
-    Case("store p2 part", 0, "ok written 1 skipped 2"),
+    Case("store p2 part", 0, "ok written 1 skipped 2 unknown 0"),
     Case("store p6 part", 1, "refused 10 at 56"),
+    Case("store p7 part7", 0, "ok written 1 skipped 0 unknown 2"),
     Case("store wrong cut", 1, "refused 11 at 24"),
     Case("store wrong cut --limit 1", 1, "refused 11 at 24"),
     Case("store p2 cut --limit 0", 0, "ok stored 0"),
@@ -129,8 +158,9 @@ CASES = (
     Case("store p2 cut --limit", 2, ""),
     Case("store p2 p2", 2, ""),
     Case("store none none2", 1, "refused 1 at 0"),
-    Case("store nothing none", 0, "ok written 0 skipped 0"),
-    Case("store p2 cut --dry-run", 0, "ok written 1 skipped 2\nkept from 4 before 12\ndry run: nothing is stored"),
+    Case("store nothing none", 0, "ok written 0 skipped 0 unknown 0"),
+    Case("store p2 cut --dry-run", 0,
+         "ok written 1 skipped 2 unknown 0\nkept from 4 before 12\ndry run: nothing is stored"),
     Case("store kinds long --dry-run", 0, DRY),
     Case("store kinds long --dry-run --limit 3", 0,
          "ok stored 3\nkept from 12 before 48\ndry run: nothing is stored"),
@@ -145,6 +175,8 @@ CASES = (
     Case("list kinds", 0, LISTED.format(f"0x{sparse.read_header(ALL_KINDS).checksum:08x}")),
     Case("list unsummed", 0, LISTED.format("none")),
     Case("list p6", 1, "refused 10 at 56"),
+    Case("list p7", 0, LISTED_P7),
+    Case("list hollow", 0, LISTED_HOLLOW),
     Case("list wrong", 1, "refused 11 at 24"),
     Case("map kinds", 0, DRAWN),
     Case("map p6 --svg refused", 1, "refused 10 at 56"),
@@ -183,6 +215,7 @@ CASES = (
 
 LEFT: Dict[str, bytes] = {
     "part": b"\xFF" * 4 + b"efghijkl",
+    "part7": b"\xFF" * 4 + b"efghijkl",
     "cut": FILES["cut"],
     "long": FILES["long"],
     "none": b"",
@@ -361,7 +394,7 @@ def loop_device(path: str) -> Iterator[str]:
 
 def block_devices(tool: Tool) -> None:
     """A block device is a partition, held alone, and is never replaced."""
-    image = build.sparse_image(512, [build.fill(b"abcd", 2), build.skip(6)])
+    image = build.sparse_image(512, [build.fill(b"abcd", 2), build.skip(5), build.unknown(8, 1)])
     save("image", image)
     save("disk", b"x" * 4096)
     with loop_device("disk") as device:
@@ -374,7 +407,8 @@ def block_devices(tool: Tool) -> None:
         os.close(held)
         expect_end(tool.run(f"store {device} {device}"), 2)
         done = tool.run(f"store image {device}")
-        expect(done.stdout == "ok written 2 skipped 6\n", "a block device is stored on", done)
+        expect(done.stdout == "ok written 2 skipped 5 unknown 1\n", "a block device is stored on", done)
+        expect(done.stderr == remarks_on(image), "what is remarked", done)
         with open(device, "rb") as file:
             expect(file.read() == b"abcd" * 256 + b"x" * 3072, "what the block device holds")
 
@@ -578,9 +612,45 @@ def folder_not_synced(tool: Tool) -> None:
     expect_end(tool.run("write flat 8 image", BAD_FOLDER="1"), 3, "again")
 
 
-# Images that state no checksum.
+# What is remarked on images: no checksum, and chunks of unknown type.
 
 UNCHECKED = "no checksum is stated: the data were not checked"
+
+
+def kept(blocks: int) -> str:
+    """What is said of the blocks of unknown chunks."""
+    return "1 block kept as it was" if blocks == 1 else f"{blocks} blocks kept as they were"
+
+
+def remark_on_unknown(image: bytes) -> str:
+    """What is said of the unknown chunks of an accepted image that can be walked, by the reference; nothing where
+    there are none."""
+    at, found = sparse.read_header(image).file_header_size, []
+    for chunk in sparse.chunks_of(image):
+        type_there = int.from_bytes(image[at:at + 2], "little")
+        if type_there not in KIND_NAMES:
+            found.append((type_there, at, chunk.blocks))
+        at = chunk.end
+    if not found:
+        return ""
+    chunks = "1 chunk" if len(found) == 1 else f"{len(found)} chunks"
+    blocks = kept(sum(blocks for _, _, blocks in found))
+    return f"{chunks} of unknown type: {blocks}; the first is 0x{found[0][0]:04X} at offset {found[0][1]}\n"
+
+
+def remark_on_blocks(unknown: int) -> str:
+    """What is said of so many unknown blocks of an image that comes by standard input."""
+    return f"chunks of unknown type: {kept(unknown)}\n" if unknown else ""
+
+
+def remarks_on(image: bytes, words: str = "") -> str:
+    """All that is said of an accepted image besides the answer to a command."""
+    unchecked = "" if sparse.read_header(image).checksum else UNCHECKED + "\n"
+    if " - " not in words:
+        return unchecked + remark_on_unknown(image)
+    verdict = sparse.judge(image, len(FILES["long"]))
+    assert isinstance(verdict, sparse.Accepted)
+    return unchecked + remark_on_blocks(verdict.unknown)
 
 
 def tried_on(tool: Tool, words: str, image: bytes, piped: bool) -> Tuple["subprocess.CompletedProcess[str]", bytes]:
@@ -611,9 +681,10 @@ def none_stated(tool: Tool) -> None:
             expect(done.returncode == want.returncode == 0 and left == after, words, done)
             answers = [re.sub("checksum .*", "", told.stdout) for told in (want, done)]
             expect(answers[0] == answers[1] != "", f"{words}: the answer", done)
-            expect(want.stderr == "" and done.stderr == UNCHECKED + "\n", f"{words}: what is said", done)
+            expect(want.stderr == remarks_on(stated, words), f"{words}: what is said", want)
+            expect(done.stderr == f"{UNCHECKED}\n{want.stderr}", f"{words}: what is said", done)
     done = tool.run("judge p8 12", "2>&1")
-    expect(done.stdout == f"ok written 1 skipped 2\n{UNCHECKED}\n", "the answer comes first", done)
+    expect(done.stdout == f"ok written 1 skipped 2 unknown 0\n{UNCHECKED}\n", "the answer comes first", done)
     done, left = tried_on(tool, "store image fresh", FILES["p8"] + b"\0", False)
     expect(done.stderr.startswith("refused 10 at 56\n") and UNCHECKED not in done.stderr, "a refusal", done)
     expect(left == FILES["long"], "the partition after a refusal")
@@ -636,7 +707,7 @@ def not_checked(tool: Tool) -> None:
     for at in range(40, 48):
         image = build.with_bytes(FILES["unsummed"], at, b"!")
         done, left = tried_on(tool, "store image fresh", image, False)
-        expect(done.stderr == UNCHECKED + "\n" and left == store.store(image, FILES["long"])[1] and b"!" in left,
+        expect(done.stderr == remarks_on(image) and left == store.store(image, FILES["long"])[1] and b"!" in left,
                f"byte {at}", done)
     for words, piped in commands_on(FILES["wrong"]):
         done, left = tried_on(tool, words, FILES["wrong"], piped)
@@ -656,6 +727,43 @@ def true_sum_of_0(tool: Tool) -> None:
         expect(done.returncode == 0 and done.stderr == UNCHECKED + "\n", words, done)
         stores = "store" in words and "--dry-run" not in words
         expect(left == (FILES["sum0"] if stores else b"long") + FILES["long"][4:], f"{words}: the partition", done)
+
+
+def unknown_told(tool: Tool) -> None:
+    """Of unknown chunks it is said how many there are, empty ones too, and what the first is; of those that come by
+    standard input how many blocks they have."""
+    said = {
+        "p2": ("", ""),
+        "p7": ("1 chunk of unknown type: 2 blocks kept as they were; the first is 0xCAC5 at offset 44\n",
+               "chunks of unknown type: 2 blocks kept as they were\n"),
+        "kinds": ("1 chunk of unknown type: 1 block kept as it was; the first is 0x0007 at offset 76\n",
+                  "chunks of unknown type: 1 block kept as it was\n"),
+        "hollow": ("1 chunk of unknown type: 0 blocks kept as they were; the first is 0xCAC0 at offset 44\n", ""),
+        "strange": ("3 chunks of unknown type: 5 blocks kept as they were; the first is 0xFFFF at offset 40\n",
+                    "chunks of unknown type: 5 blocks kept as they were\n"),
+    }
+    for name, (walked, sent) in said.items():
+        for words, piped in commands_on(FILES[name]):
+            done, left = tried_on(tool, words, FILES[name], piped)
+            expect(done.returncode == 0 and done.stderr == (sent if " - " in words else walked), words, done)
+            told = json.loads(tried_on(tool, words + " --json", FILES[name], piped)[0].stdout)
+            expect(told.get("foreign", "") == done.stderr.rstrip("\n"), f"{words}: {told}")
+            if words.startswith("store") and "--limit" not in words and "--dry-run" not in words:
+                expect(left == store.store(FILES[name], FILES["long"])[1], f"{words}: the partition", done)
+    done = tool.run("judge p7 12", "2>&1")
+    expect(done.stdout == "ok written 1 skipped 0 unknown 2\n" + said["p7"][0], "the answer comes first", done)
+    done = tool.run("judge p7 11")
+    expect(done.stdout == "" and "unknown" not in done.stderr, "a refusal", done)
+
+
+def unknown_is_kept(tool: Tool) -> None:
+    """But for the counts, and what is said of them, P7 is as P2."""
+    for words, piped in commands_on(FILES["p2"]):
+        want, after = tried_on(tool, words, FILES["p2"], piped)
+        done, left = tried_on(tool, words, FILES["p7"], piped)
+        expect(done.returncode == want.returncode == 0 and left == after, words, done)
+        answer = re.sub("(skip(?:ped)?) 2 unknown 0", r"\1 0 unknown 2", want.stdout)
+        expect(done.stdout == answer.replace("1 skip   ", "1 unknown"), f"{words}: {answer!r} expected", done)
 
 
 # Images that come by standard input.
@@ -688,7 +796,10 @@ def expect_answer(done: "subprocess.CompletedProcess[str]", answer: passes.Answe
         expect(told == (late and answer.number > 6) and done.stdout == "", "what is said of the partition", done)
     else:
         expect(isinstance(answer, sparse.Accepted), f"the answer {answer}")
-        expect(done.stdout == f"ok written {answer.written} skipped {answer.skipped}\n", f"{answer} expected", done)
+        counts = f"ok written {answer.written} skipped {answer.dont_care} unknown {answer.unknown}\n"
+        expect(done.stdout == counts, f"{answer} expected", done)
+        remarks = done.stderr.replace(UNCHECKED + "\n", "")
+        expect(remarks == remark_on_blocks(answer.unknown), "what is remarked", done)
 
 
 def images_to_send(rng: random.Random) -> Iterator[Tuple[bytes, bytes]]:
@@ -874,7 +985,7 @@ def shown_from_files(tool: Tool) -> None:
     shown = r"\rjudging 56 B of 56 B.*\rstoring 56 B of 56 B.*\rputting it on the disk, 0 s"
     expect(re.search(shown, screen.text) is not None, f"what is shown: {screen.text!r}")
     expect(max(len(line) for line in screen.text.split("\r")) < 30, f"lines that are too long: {screen.text!r}")
-    expect(done.stderr == "" and done.stdout == "ok written 1 skipped 2\n", "what is left", done)
+    expect(done.stderr == "" and done.stdout == "ok written 1 skipped 2 unknown 0\n", "what is left", done)
     expect(read("cut") == LEFT["part"], "the partition")
     screen = Screen()
     done = screen.finish(screen.begin(tool, "store p2 cut", SLOW_END="1", BAD_END="1"))
@@ -895,7 +1006,7 @@ def outcome(tool: Tool, words: str, faults: Dict[str, str], watched: bool) -> Tu
 
 def told_on_terminals(tool: Tool) -> None:
     """Storing a file where a terminal watches ends as it does elsewhere."""
-    images = ("p2", "p6", "p8", "wrong", "kinds", "none", "cut", "missing")
+    images = ("p2", "p6", "p7", "p8", "wrong", "kinds", "hollow", "none", "cut", "missing")
     plain = [(f"store {image} cut{more}", {}) for image in images for more in ("", " --json")]
     for words, faults in plain + [
         ("store p2 cut --limit 1", {}), ("store p2 cut --dry-run", {}), ("store p2 cut", {"BAD_FILE": "1"}),
@@ -975,17 +1086,27 @@ def numbers_in(value: Any) -> List[int]:
     return [value] if isinstance(value, int) and not isinstance(value, bool) else []
 
 
+def members(pairs: List[Tuple[str, Any]]) -> Dict[str, Any]:
+    """An object, in which no name stands twice."""
+    found = dict(pairs)
+    expect(len(found) == len(pairs), f"a name stands twice in {pairs}")
+    return found
+
+
 def same_in_json(tool: Tool) -> None:
     """The object has each number that the text has, and the status."""
     save("tried", TRIED)
-    for words in ("judge p2 12", "judge p6 12", "judge p8 12", "store p2 cut", "store p2 cut --limit 1",
-                  "store kinds long --dry-run", "store p6 cut", "list kinds", "list p6", "map kinds", "map p6",
+    for words in ("judge p2 12", "judge p6 12", "judge p7 12", "judge p8 12", "store p2 cut", "store p2 cut --limit 1",
+                  "store p7 cut", "store kinds long --dry-run", "store p6 cut", "list kinds", "list p6", "list p7",
+                  "list strange", "map kinds", "map p6",
                   "write flat 8 image", "write flat 12 image", "sections boot", "sections flat",
                   "slots tried show", "slots odd show", "slots tried fresh 5", "slots tried fresh 3"):
         text, told = tool.run(words), tool.run(words + " --json")
-        found = json.loads(told.stdout)
+        found = json.loads(told.stdout, object_pairs_hook=members)
         expect(told.returncode == text.returncode == found["status"] and told.stderr == "", words, told)
         expect(found["command"] == words.split()[0], words, told)
+        for name, number in re.findall("(written|skipped|unknown) ([0-9]+)", text.stdout):
+            expect(found[name] == int(number), f"{words}: {name} {number} expected", told)
         lines = text.stdout if text.returncode == 0 else text.stderr.split("\n")[0]
         lines = "\n".join(line for line in lines.split("\n") if "a cell is" not in line and "##" not in line)
         said = [int(number, 0) for number in re.findall(r"\b(?:0x[0-9a-f]+|[0-9]+)\b", lines)]
@@ -1026,6 +1147,7 @@ def as_the_reference(tool: Tool) -> None:
             expect_end(tool.run("list image"), 1)
             continue
         chunks = chunks_of(image)
+        expect(tool.run("list image").stderr == remarks_on(image), "what is remarked")
         told = json.loads(tool.run("list image --json").stdout)["list"]
         expect([(c["first"], c["kind"], c["blocks"], c.get("word")) for c in told] == chunks, f"chunks {told}")
         cells = "".join(SIGNS[kind] * blocks for _, kind, blocks, _ in chunks)
@@ -1065,20 +1187,44 @@ def long_images(tool: Tool) -> None:
     picture = xml.etree.ElementTree.parse("picture.svg")
     notes = [note.text or "" for note in picture.iter("{http://www.w3.org/2000/svg}title")]
     expect(len(notes) == 1 + 1003 and "kept 1 " in notes[1] + " ", f"notes of the SVG, {notes[:2]}")
-    vast = build.sparse_image(65536, [build.skip(2**31), build.fill(b"\0\0\0\1", 2**31 - 1)])
-    save("vast", vast)
-    expect(tool.run("list vast").stdout.endswith("ok written 2147483647 skipped 2147483648\n"), "a vast image")
-    expect(len(json.loads(tool.run("map vast --json").stdout)["cells"]) == 1024, "cells of a vast image")
+    vast = [build.skip(2**30), build.unknown(9, 2**30), build.fill(b"\0\0\0\1", 2**31 - 1)]
+    save("vast", build.sparse_image(65536, vast))
+    counts = "ok written 2147483647 skipped 1073741824 unknown 1073741824\n"
+    expect(tool.run("list vast").stdout.endswith(counts), "a vast image")
+    cells = json.loads(tool.run("map vast --json").stdout)["cells"]
+    expect(cells == "." * 256 + "?" * 256 + "=" * 512, f"cells of a vast image, {cells}")
+
+
+MIXED = "         0  #=.?+%%!!!" + "=" * 54
+MIXED_LEGEND = ("a cell is 3 blocks:  # raw  = fill  . kept  ? unknown, kept too  + raw and fill  % partly kept"
+                "  ! partly unknown")
+
+
+def mixed_cells(tool: Tool) -> None:
+    """A cell of several kinds tells whether some of its blocks are unknown, else whether some are kept."""
+    raw, fill, gap, unknown = build.raw(b"abcd", 4), build.fill(b"efgh", 1), build.skip(1), build.unknown(5, 1)
+    cells = ((raw,) * 3, (fill,) * 3, (gap,) * 3, (unknown,) * 3, (raw, fill, fill), (raw, gap, gap),
+             (gap, fill, gap), (unknown, gap, gap), (raw, unknown, fill), (unknown, raw, gap))
+    plans = [plan for cell in cells for plan in cell] + [build.fill(bytes(4), 3 * 1014)]
+    save("image", build.sparse_image(4, plans))
+    told = tool.run("map image --svg picture.svg").stdout.split("\n")
+    expect(told[1] == MIXED and told[17:] == [MIXED_LEGEND, "blocks raw 7 fill 3049 kept 10 unknown 6", ""], f"{told}")
+    texts = list(xml.etree.ElementTree.parse("picture.svg").getroot().itertext())
+    expect("blocks 24 to 26: raw 1 fill 1 unknown 1" in texts, f"notes of the SVG, {texts[:40]}")
+    legend = texts.index("unknown")
+    expect(texts[legend:legend + 4] == ["unknown", "6 blocks", "24 bytes", "unknown chunk: left as they were"],
+           f"the legend of the SVG, {texts[legend:legend + 4]}")
 
 
 CHECKS: Tuple[Callable[[Tool], None], ...] = (
     closed_descriptors, printed_into_files, kinds_of_targets, block_devices, links, locks, locks_to_the_end,
     starts_at_once, replaced_at_once, changed_image, lost_partitions, bad_disk, pipes_as_images, interrupted_writes,
     folder_not_synced,
-    none_stated, none_stated_in_json, not_checked, true_sum_of_0,
+    none_stated, none_stated_in_json, not_checked, true_sum_of_0, unknown_told, unknown_is_kept,
     sent_in_pieces, sent_from_files, wrong_lengths, kinds_of_input, killed_on_the_way, faults_on_the_way,
     shown_from_pipes, shown_from_files, told_on_terminals,
     help_and_version, same_words, not_printed, same_in_json, as_the_reference, names_of_any_bytes, long_images,
+    mixed_cells,
 )
 
 

@@ -51,6 +51,12 @@ else
     echo "install: g++ is not installed: the header in C++ is left out"
 fi
 
+# Names that the header had when there were two counts are gone: whoever uses one is told so by the compiler.
+for gone in TARPAULARK_WRITTEN TARPAULARK_SKIPPED; do
+    sed "s/TARPAULARK_BAD_LENGTH/$gone/" "$folder/use.c" >"$folder/gone.c"
+    ! "$cc" -fsyntax-only -I"$root/include" "$folder/gone.c" 2>/dev/null || die "the header still has $gone"
+done
+
 # With the C library left out no symbol is missing.
 # shellcheck disable=SC2086
 "$cc" -ffreestanding -nostdlib -nostartfiles -static -Wl,-e,use -o "$folder/bare" "$folder/use.c" $flags \

@@ -7,6 +7,7 @@ with the reference's text.  Prints one line, `lister: N inputs agree`; at the
 first difference it shows that one instead and ends with 1.
 """
 
+import itertools
 import os
 import random
 import subprocess
@@ -39,9 +40,12 @@ class Answer(NamedTuple):
 
 
 def many_chunks(count: int) -> List[ChunkPlan]:
-    """So many chunks of all kinds in turn."""
-    plans = (build.skip(1), build.fill(b"abcd", 2), build.raw(b"wxyz", 4), build.unknown(9, 3))
-    return [plans[i % 4] for i in range(count)]
+    """So many chunks of all kinds in turn, the unknown ones of several types."""
+    plans = []
+    for other in itertools.islice(itertools.cycle(cases_sparse.OTHER_TYPES), 1 + count // 4):
+        plans += [build.skip(1), build.fill(b"abcd", 2), build.raw(b"wxyz", 4)]
+        plans.append(build.unknown(other, 3))
+    return plans[:count]
 
 
 def long_images() -> List[bytes]:
@@ -51,9 +55,12 @@ def long_images() -> List[bytes]:
     raw = build.raw(bytes(range(251)) * 300, 4)
     full = build.sparse_image(4, [ChunkPlan(0xCAC1, blocks, raw.data[:4 * blocks])])
     unread = build.sparse_image(4, [build.unknown(5, 7, bytes(LONGEST - head))])
-    skips = build.sparse_image(4, [build.skip(i % 3) for i in range((LONGEST - 28) // 12)])
+    most = (LONGEST - 28) // 12
+    skips = build.sparse_image(4, [build.skip(i % 3) for i in range(most)])
+    others = [build.unknown(4 * i, 1) for i in range(1, most)]
+    unknowns = build.sparse_image(4, [build.unknown(7, BLOCKS_OF_4 - len(others))] + others)
     assert len(full) == len(unread) == LONGEST and LONGEST - 12 < len(skips) <= LONGEST
-    images = [full, unread, skips]
+    images = [full, unread, skips, unknowns]
     images += [image + b"\0" for image in images] + [image[:-1] for image in images]
     images += [bytes(length) for length in (LONGEST - 1, LONGEST, LONGEST + 1, 2 * LONGEST)]
     return images + [full + bytes(LONGEST), full + full, unread + bytes(3), b"\xFF" * 300_000]
@@ -70,6 +77,7 @@ def big_number_images() -> List[bytes]:
         plans = [build.fill(b"\0\0\0\1", near), build.raw(b"last", 4), build.skip(0)]
         images.append(build.sparse_image(4, plans))
         images.append(build.sparse_image(4, [build.skip(near), build.raw(b"", 4)]))
+        images.append(build.sparse_image(4, [build.unknown(0xCAC4, near), build.skip(1)]))
     images += [build.sparse_image(4, [build.skip(n)]) for n in (2**30, 2**31, 2**32 - 1)]
     return images
 
@@ -82,8 +90,18 @@ def checksum_images() -> List[bytes]:
         images += cases_sparse.none_stated_images(*sizes)
     images += cases_sparse.zero_sum_images()
     images += [build.sparse_image(4, many_chunks(count), checksum=0) for count in (4, 99, 4000)]
-    images += [build.stating(image, 0) for image in long_images()[:3] + big_number_images()]
+    images += [build.stating(image, 0) for image in long_images()[:4] + big_number_images()]
     return images + [build.stating(image, 1) for image in images]
+
+
+def unknown_images(rng: random.Random) -> List[bytes]:
+    """Images with chunks of many unknown types, empty ones and such with data; P2 with
+    its second type near any known one."""
+    images = [case.image for case in cases_sparse.count_cases()]
+    for known in cases_sparse.KNOWN_TYPES:
+        near = cases_sparse.near_types(known)
+        images += [build.two_chunks(second_type=other) for other in near]
+    return images + [cases_store.unknown_image(rng) for _ in range(300)]
 
 
 def inputs() -> List[bytes]:
@@ -95,7 +113,7 @@ def inputs() -> List[bytes]:
     found += [build.sparse_image(8, empties[:count]) for count in range(5)]
     found += [build.sparse_image(4, many_chunks(count)) for count in (4, 9, 10, 99, 1000, 4000)]
     found += long_images() + big_number_images() + list(cases_store.SMALL_IMAGES)
-    found += checksum_images()
+    found += checksum_images() + unknown_images(rng)
     cases = cases_sparse.example_cases() + cases_sparse.cut_cases() + cases_sparse.sum_cases()
     cases += cases_sparse.end_cases() + cases_sparse.header_size_cases()
     cases += cases_sparse.block_size_cases() + cases_sparse.type_cases()

@@ -136,7 +136,7 @@ try_theirs() {
     length=$(stat -c %s "$1")
     expect agrees "img2simg, $1" same_but_checksum "$1" "$2"
     expect agrees "judge of img2simg's image, $1" \
-        says "ok written $((length / $2)) skipped 0" judge "$1.theirs" "$length"
+        says "ok written $((length / $2)) skipped 0 unknown 0" judge "$1.theirs" "$length"
     expect agrees "store of img2simg's image, $1" stored_as_flat "$1"
     [ $has_simg2img = 0 ] || expect agrees "simg2img of img2simg's image, $1" stored_as_made "$1.theirs" "$length"
 }

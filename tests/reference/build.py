@@ -57,6 +57,14 @@ def planned_checksum(plans: Sequence[ChunkPlan], block_size: int) -> int:
     return state ^ crc.ALL_ONES
 
 
+def planned_counts(plans: Sequence[ChunkPlan]) -> Tuple[int, int, int]:
+    """The plans' blocks that are written, don't care, and unknown."""
+    written = sum(plan.blocks for plan in plans if plan.type in (0xCAC1, 0xCAC2))
+    dont_care = sum(plan.blocks for plan in plans if plan.type == 0xCAC3)
+    unknown = sum(plan.blocks for plan in plans if plan.type not in range(0xCAC1, 0xCAC4))
+    return written, dont_care, unknown
+
+
 def padding(count: int) -> bytes:
     """Bytes past the known fields of a header, the first of them not 0."""
     return FILLER[:count] + bytes(max(0, count - len(FILLER)))

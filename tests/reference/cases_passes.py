@@ -104,9 +104,10 @@ def encoded(case: Case) -> bytes:
 
 
 def answer_values(answer: Answer, finishing: bool) -> Tuple[int, ...]:
-    """Number and place; of a finishing also blocks written and skipped."""
-    verdict = Accepted(0, 0) if isinstance(answer, GoingOn) else answer
-    return cases_sparse.verdict_values(verdict)[:4 if finishing else 2]
+    """Number and place; of a finishing also the three counts."""
+    verdict = Accepted(0, 0, 0) if isinstance(answer, GoingOn) else answer
+    values = cases_sparse.verdict_values(verdict)
+    return values if finishing else values[:2]
 
 
 class Outcome(NamedTuple):
@@ -317,6 +318,20 @@ def checksum_cases(rng: random.Random) -> List[Case]:
     return cases
 
 
+def count_cases(rng: random.Random) -> List[Case]:
+    """02, CR 3: a chunk of each kind in every order, types near the known ones, and many
+    blocks of each kind."""
+    cases = []
+    for image in cases_sparse.ordered_images() + cases_sparse.near_images():
+        room = cases_store.total_length(image)
+        told = both(at_random(rng, image, 6), len(image), room)
+        cases += cases_of(rng, image, room, told)
+    for image in cases_sparse.wide_count_images():
+        told = [judged(at_random(rng, image, 6), len(image), MOST_LENGTH)]
+        cases += cases_of(rng, image, 0, told)
+    return cases
+
+
 def passes_taken(rng: random.Random, room: int) -> Sequence[Optional[int]]:
     """One of the passes, or both in turn, by the partition that is lent."""
     return pick(rng, ((None,), (room,), (room,), (room, None)))
@@ -364,5 +379,5 @@ def random_cases(rng: random.Random) -> List[Case]:
 def group(rng: random.Random) -> Group:
     """All cases of the group."""
     cases = cut_cases(rng) + byte_cases(rng) + length_cases(rng) + early_cases(rng)
-    cases += wide_cases(rng) + checksum_cases(rng) + random_cases(rng)
+    cases += wide_cases(rng) + checksum_cases(rng) + count_cases(rng) + random_cases(rng)
     return Group(b"".join(map(encoded, cases)), [values(case) for case in cases])

@@ -11,7 +11,9 @@ from cases_common import Group, below, patched_image, pick, some_bytes, u64
 
 MOST = 2**32 - 1
 ROOM = 2**64 - 1
+KNOWN_TYPES = (0xCAC1, 0xCAC2, 0xCAC3)
 OTHER_TYPES = (0, 1, 0xCAC0, 0xCAC4, 0xCAC5, 0xC1CA, 0x00C1, 0xCA00, 0xFFFF)
+OTHER_TYPES += (0x4AC1, 0xCBC2, 0xC0C3)
 
 
 class Case(NamedTuple):
@@ -27,14 +29,14 @@ def encoded(case: Case) -> bytes:
 
 
 def verdict_values(verdict: sparse.Verdict) -> Tuple[int, ...]:
-    """Number, place, written, skipped."""
+    """Number, place, written, don't care, unknown."""
     if isinstance(verdict, sparse.Refusal):
-        return verdict.number, verdict.place, 0, 0
-    return 0, 0, verdict.written, verdict.skipped
+        return verdict.number, verdict.place, 0, 0, 0
+    return 0, 0, verdict.written, verdict.dont_care, verdict.unknown
 
 
 def values(case: Case) -> Tuple[int, ...]:
-    """The verdict's four values."""
+    """The verdict's five values."""
     return verdict_values(sparse.judge(case.image, case.partition_length))
 
 
@@ -173,7 +175,7 @@ def block_size_cases() -> List[Case]:
 def type_cases() -> List[Case]:
     """Total sizes around the right one for every type, known or not."""
     cases = []
-    known = ((0xCAC1, 8), (0xCAC2, 4), (0xCAC3, 0))
+    known = tuple(zip(KNOWN_TYPES, (8, 4, 0)))
     for chunk_type, length in known + tuple((other, 8) for other in OTHER_TYPES):
         for total in (0, 4, 8, 11, 12, 13, 14, 16, 18, 20, 24, MOST - 3, MOST):
             plan = ChunkPlan(chunk_type, 1, bytes(range(1, length + 1)), total)
@@ -340,6 +342,90 @@ def checksum_cases() -> List[Case]:
     return cases
 
 
+def ordered_plans() -> List[List[ChunkPlan]]:
+    """A chunk of each kind, in every order: 5 blocks written, 4 don't care, and 7 unknown
+    of one type or another.  An empty unknown chunk stands between them."""
+    found = []
+    for i, order in enumerate(itertools.permutations(range(4))):
+        other = OTHER_TYPES[i % len(OTHER_TYPES)]
+        plans = (
+            build.raw(b"raw data", 4),
+            build.fill(b"fill", 3),
+            build.skip(4),
+            build.unknown(other, 7, b"data" * (i % 3)),
+        )
+        ordered = [plans[k] for k in order]
+        found.append(ordered[:2] + [build.unknown(other, 0, b"none")] + ordered[2:])
+    return found
+
+
+def ordered_images() -> List[bytes]:
+    """Images of these chunks, every other one with headers longer than they need be."""
+    images = []
+    for i, plans in enumerate(ordered_plans()):
+        file_size, chunk_size = ((28, 12), (36, 20))[i % 2]
+        images.append(build.sparse_image(
+            4, plans, file_header_size=file_size, chunk_header_size=chunk_size
+        ))
+    return images
+
+
+def near_types(known: int) -> List[int]:
+    """The unknown types that differ from a known one in a single bit."""
+    near = [known ^ 1 << bit for bit in range(16)]
+    return [chunk_type for chunk_type in near if chunk_type not in KNOWN_TYPES]
+
+
+def near_images() -> List[bytes]:
+    """Chunks of all types near a known one, each as long as if it were of that one, and no
+    checksum stated, so that only the counts tell the types apart."""
+    images = []
+    for known in KNOWN_TYPES:
+        plans = [build.fill(b"fill", 1), build.skip(2)]
+        for blocks, chunk_type in enumerate(near_types(known), 1):
+            length = {0xCAC1: 4 * blocks, 0xCAC2: 4, 0xCAC3: 0}[known]
+            plans.append(build.unknown(chunk_type, blocks, b"\x5A" * length))
+        images.append(build.sparse_image(4, plans, checksum=0))
+    return images
+
+
+def retyped_images() -> List[bytes]:
+    """The base image with no checksum stated and one of its types replaced."""
+    return [
+        build.with_bytes(base_image(checksum=0), at, chunk_type.to_bytes(2, "little"))
+        for at, chunk_type in itertools.product(BASE_CHUNKS_AT, KNOWN_TYPES + (0xCAC0, 0xFFFF))
+    ]
+
+
+def wide_count_images() -> List[bytes]:
+    """The greatest number of blocks, parted in three: many and few of each count."""
+    images = []
+    for parts in ((1, 2, MOST - 3), (2**31, 2**30, 2**30 - 1), (2**16, 0, MOST - 2**16)):
+        for written, dont_care, unknown in itertools.permutations(parts):
+            plans = [
+                build.unknown(0xCAC4, unknown),
+                build.fill(b"\xFF" * 4, written),
+                build.skip(dont_care),
+            ]
+            images.append(build.sparse_image(65536, plans))
+    return images
+
+
+def count_cases() -> List[Case]:
+    """02, CR 3: "three counts whose sum is the total: written, don't care, unknown"."""
+    images = ordered_images() + near_images() + retyped_images() + wide_count_images()
+    others = [build.unknown(t, i % 3, b"data" * (i % 4)) for i, t in enumerate(OTHER_TYPES)]
+    images += [build.sparse_image(8, others), build.sparse_image(8, others + list(KIND_PLANS))]
+    return [Case(image, ROOM) for image in images]
+
+
+def other_type(rng: random.Random) -> int:
+    """A type that is not known: one of a few, one near a known one, or any."""
+    near = pick(rng, near_types(pick(rng, KNOWN_TYPES)))
+    found = pick(rng, (pick(rng, OTHER_TYPES), near, rng.getrandbits(16)))
+    return 0 if found in KNOWN_TYPES else found
+
+
 def random_plan(rng: random.Random, block_size: int) -> ChunkPlan:
     """A chunk of any kind, sometimes empty."""
     blocks = below(rng, 5)
@@ -350,7 +436,7 @@ def random_plan(rng: random.Random, block_size: int) -> ChunkPlan:
         return build.fill(some_bytes(rng, 4), blocks * (1 + below(rng, 100)))
     if kind == 2:
         return build.skip(blocks * (1 + below(rng, 100)))
-    return build.unknown(pick(rng, OTHER_TYPES), blocks, some_bytes(rng, 4 * below(rng, 6)))
+    return build.unknown(other_type(rng), blocks, some_bytes(rng, 4 * below(rng, 6)))
 
 
 def random_image(rng: random.Random) -> bytes:
@@ -386,5 +472,5 @@ def group(rng: random.Random) -> Group:
     cases += end_cases() + header_size_cases() + ignored_cases() + block_size_cases()
     cases += type_cases() + raw_product_cases() + long_run_cases(rng)
     cases += header_order_cases() + chunk_order_cases() + checksum_cases()
-    cases += random_cases(rng)
+    cases += count_cases() + random_cases(rng)
     return Group(b"".join(map(encoded, cases)), [values(case) for case in cases])

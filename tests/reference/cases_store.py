@@ -193,7 +193,7 @@ MIXED_PLANS = (
     build.skip(1),
     build.fill(b"\x11\x22\x33\x44", 2),
     build.raw(b"", 12),
-    build.unknown(0xCAC4, 1, b"\x99\x88\x77\x66\x55\x44\x33\x22"),
+    build.unknown(0xCAC4, 4, b"\x99\x88\x77\x66\x55\x44\x33\x22"),
     build.fill(b"none", 0),
     build.skip(0),
     build.raw(b"twelve bytes", 12),
@@ -230,15 +230,17 @@ def example_cases() -> List[Case]:
 
 
 def single_cases(rng: random.Random) -> List[Case]:
-    """One image, one cut on the original contents: every limit, every torn shape."""
+    """One image, one cut on the original contents: every limit, every torn shape; on a
+    longer partition every limit, with one of the shapes."""
     cases = []
-    for image, more in itertools.product(SMALL_IMAGES, (0, 5)):
-        length = total_length(image) + more
+    for image in SMALL_IMAGES:
+        length = total_length(image)
         for cut, limit in all_cuts([image], length, 2):
             torn_shapes = range(SHAPES) if limit < written(image, length) else range(1)
-            for shape in torn_shapes:
-                run = cut_run(rng, [image], length, cut, limit, shape)
-                cases.append(Case(length, below(rng, 256), (image,), (run,)))
+            taken = [(length, shape) for shape in torn_shapes]
+            for room, shape in taken + [(length + 5, 1 + limit % (SHAPES - 1))]:
+                run = cut_run(rng, [image], room, cut, limit, shape)
+                cases.append(Case(room, below(rng, 256), (image,), (run,)))
     for image, limit in itertools.product(SMALL_IMAGES, WIDE_LIMITS):
         cases.append(Case(total_length(image), 9, (image,), (Run(0, limit),)))
     return cases
@@ -389,6 +391,22 @@ def checksum_cases(rng: random.Random) -> List[Case]:
     return cases
 
 
+def count_cases(rng: random.Random) -> List[Case]:
+    """02, CR 3: a chunk of each kind in several orders, cut after each block; before each
+    the same with its don't-care chunk of an unknown type, which stores the same."""
+    cases = []
+    for plans in cases_sparse.ordered_plans()[::5]:
+        strange = [
+            plan._replace(type=0xCAC5) if plan.type == 0xCAC3 else plan for plan in plans
+        ]
+        listed = (build.sparse_image(4, strange), build.sparse_image(4, plans))
+        length = total_length(listed[0]) + below(rng, 2)
+        cuts = list(all_cuts(listed, length, 1))
+        runs = [cut_run(rng, listed, length, *cut, below(rng, SHAPES)) for cut in cuts]
+        cases.append(Case(length, below(rng, 256), listed, tuple(runs)))
+    return cases
+
+
 def random_plan(rng: random.Random, block_size: int) -> ChunkPlan:
     """A small chunk of any kind, sometimes empty."""
     blocks = below(rng, 4)
@@ -399,7 +417,7 @@ def random_plan(rng: random.Random, block_size: int) -> ChunkPlan:
         return build.fill(some_bytes(rng, 4), blocks)
     if kind == 3:
         return build.skip(blocks)
-    return build.unknown(pick(rng, cases_sparse.OTHER_TYPES), blocks, some_bytes(rng, 4 * blocks))
+    return build.unknown(cases_sparse.other_type(rng), blocks, some_bytes(rng, 4 * blocks))
 
 
 def random_image(rng: random.Random) -> bytes:
@@ -412,6 +430,17 @@ def random_image(rng: random.Random) -> bytes:
     if below(rng, 8) == 0:
         return build.with_bytes(image, 24, some_bytes(rng, 4))
     return build.stating(image, 0) if below(rng, 4) == 0 else image
+
+
+def unknown_image(rng: random.Random) -> bytes:
+    """An image of which every other chunk is of an unknown type."""
+    block_size = pick(rng, (4, 8, 12))
+    plans = []
+    for _ in range(1 + below(rng, 9)):
+        data = some_bytes(rng, 4 * below(rng, 4))
+        plans.append(build.unknown(cases_sparse.other_type(rng), below(rng, 4), data))
+        plans.append(random_plan(rng, block_size))
+    return build.sparse_image(block_size, plans, chunk_header_size=pick(rng, (12, 12, 16)))
 
 
 def random_cases(rng: random.Random) -> List[Case]:
@@ -430,5 +459,6 @@ def random_cases(rng: random.Random) -> List[Case]:
 def group(rng: random.Random) -> Group:
     """All cases of the group."""
     cases = example_cases() + single_cases(rng) + repeated_cases(rng) + refused_cases(rng)
-    cases += room_cases(rng) + list_cases(rng) + checksum_cases(rng) + random_cases(rng)
+    cases += room_cases(rng) + list_cases(rng) + checksum_cases(rng) + count_cases(rng)
+    cases += random_cases(rng)
     return Group(b"".join(map(encoded, cases)), [values(case) for case in cases])

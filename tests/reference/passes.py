@@ -1,4 +1,4 @@
-"""Judging and storing an image as it comes: document 02, change requests 1 and 2.
+"""Judging and storing an image as it comes: document 02, change requests 1 to 3.
 
 "We want a judging pass, then a storing pass, each told the full length of image
 and partition, then fed the image however the radio cuts it."
@@ -37,7 +37,7 @@ Answer = Union[GoingOn, Accepted, Refusal]
 
 
 NO_HEADER = sparse.read_header(b"")
-NO_CHUNK = Chunk(sparse.SKIP, 0, 0, 0, 0)
+NO_CHUNK = Chunk(sparse.DONT_CARE, 0, 0, 0, 0)
 
 
 class Due(NamedTuple):
@@ -52,8 +52,9 @@ class State(NamedTuple):
     """What a pass knows between two calls: the lengths it was told, how many bytes have
     come, what it waits for and the refusal it gave; of the file header its tests that
     passed, its bytes and its fields; the offset after the file header and the chunks
-    before, their number, their blocks, the skipped ones, and the checksum's state;
-    of the chunk being read its fields, and the bytes kept of its header or its fill."""
+    before, their number, their blocks, and the checksum's state; the three counts of
+    all chunks that passed their tests; of the chunk being read its fields, and the
+    bytes kept of its header or its fill."""
 
     length: int
     room: int
@@ -66,8 +67,10 @@ class State(NamedTuple):
     offset: int = 0
     chunks: int = 0
     blocks: int = 0
-    skipped: int = 0
     checksum_state: int = crc.ALL_ONES
+    written: int = 0
+    dont_care: int = 0
+    unknown: int = 0
     chunk: Chunk = NO_CHUNK
     part: bytes = b""
 
@@ -192,7 +195,17 @@ def after_chunk_header(state: State) -> State:
         return refused(state, Refusal(9, state.offset))
     data_at = state.offset + state.header.chunk_header_size
     chunk = Chunk(sparse.chunk_kind(chunk_type), state.blocks, blocks, data_at, end)
-    return state._replace(waits_for=CHUNK_END, chunk=chunk, part=b"")
+    return counted(state._replace(waits_for=CHUNK_END, chunk=chunk, part=b""))
+
+
+def counted(state: State) -> State:
+    """The state with the chunk that passed its tests in one of the three counts."""
+    blocks = state.chunk.blocks
+    if state.chunk.kind == sparse.DONT_CARE:
+        return state._replace(dont_care=state.dont_care + blocks)
+    if state.chunk.kind == sparse.UNKNOWN:
+        return state._replace(unknown=state.unknown + blocks)
+    return state._replace(written=state.written + blocks)
 
 
 def summed(state: State, step: Callable[..., int], *given: Union[bytes, int]) -> State:
@@ -211,9 +224,8 @@ def is_checksum_wrong(state: State) -> bool:
 def after_chunk(state: State) -> State:
     """A chunk has come whole; a skipped one counts as zeros in the checksum."""
     chunk = state.chunk
-    if chunk.kind == sparse.SKIP:
+    if not sparse.is_written(chunk):
         state = summed(state, crc.after_zeros, chunk.blocks * state.header.block_size)
-        state = state._replace(skipped=state.skipped + chunk.blocks)
     blocks = state.blocks + chunk.blocks
     return at_chunk(state._replace(offset=chunk.end, chunks=state.chunks + 1, blocks=blocks))
 
@@ -271,11 +283,11 @@ def with_body(state: State, stretch: bytes) -> Tuple[State, List[Due]]:
     """A stretch of a chunk past its known fields: the rest of its header is passed
     over, and so are the data of a skipped chunk."""
     data = stretch[max(0, state.chunk.data_at - state.come):]
-    if state.chunk.kind == sparse.SKIP:
-        return state, []
     if state.chunk.kind == sparse.RAW:
         return with_raw(state, data)
-    return with_fill(state, data)
+    if state.chunk.kind == sparse.FILL:
+        return with_fill(state, data)
+    return state, []
 
 
 def with_stretch(state: State, stretch: bytes) -> Tuple[State, List[Due]]:
@@ -341,15 +353,15 @@ def fed(state: State, piece: bytes, lent: Optional[int]) -> Tuple[State, Answer,
 
 
 def finished(state: State, lent: Optional[int]) -> Tuple[State, Answer]:
-    """A pass is finished: a refusal, or blocks written and blocks skipped.  Nothing
-    comes due by it; where it is the first call, 01's tests begin with it."""
+    """A pass is finished: a refusal, or the three counts.  Nothing comes due by it;
+    where it is the first call, 01's tests begin with it."""
     refusal = early_refusal(state, 0, True, lent)
     if refusal is not None:
         return refused(state, refusal), refusal
     state = gone_on(state)
     if state.refusal is not None:
         return state, state.refusal
-    return state, Accepted(state.blocks - state.skipped, state.skipped)
+    return state, Accepted(state.written, state.dont_care, state.unknown)
 
 
 def judge_piece(state: State, piece: bytes) -> Tuple[State, Answer]:

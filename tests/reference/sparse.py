@@ -1,8 +1,8 @@
 """Judging a sparse image against a partition length.
 
 Document 01, "Sparse header and chunks" and refusals 1 to 11, and document 02,
-change request 2.  Chunks are treated as runs of blocks, so an image may name
-2^48 bytes.
+change requests 2 and 3.  Chunks are treated as runs of blocks, so an image may
+name 2^48 bytes.
 """
 
 from dataclasses import dataclass
@@ -22,7 +22,8 @@ TYPE_DONT_CARE = 0xCAC3
 
 RAW = "raw"
 FILL = "fill"
-SKIP = "skip"
+DONT_CARE = "don't care"
+UNKNOWN = "unknown"
 
 
 class Header(NamedTuple):
@@ -40,7 +41,8 @@ class Header(NamedTuple):
 
 
 class Chunk(NamedTuple):
-    """A chunk that passed its tests: where it stands and what it covers."""
+    """A chunk that passed its tests: where it stands and what it covers.  02, CR 3:
+    its kind "shall say whether its type is known"."""
 
     kind: str
     first_block: int
@@ -59,10 +61,11 @@ class Refusal:
 
 @dataclass(frozen=True)
 class Accepted:
-    """01: "blocks written (raw and fill) and blocks skipped (all other)"."""
+    """02, CR 3: "three counts whose sum is the total: written, don't care, unknown"."""
 
     written: int
-    skipped: int
+    dont_care: int
+    unknown: int
 
 
 Verdict = Union[Accepted, Refusal]
@@ -115,8 +118,14 @@ def header_number(image: bytes, header: Header, partition_length: int) -> int:
 
 
 def chunk_kind(chunk_type: int) -> str:
-    """Raw, fill, or skipped: "don't care" and any other type."""
-    return {TYPE_RAW: RAW, TYPE_FILL: FILL}.get(chunk_type, SKIP)
+    """One of 01's three known types, or "Any other type"."""
+    known = {TYPE_RAW: RAW, TYPE_FILL: FILL, TYPE_DONT_CARE: DONT_CARE}
+    return known.get(chunk_type, UNKNOWN)
+
+
+def is_written(chunk: Chunk) -> bool:
+    """01: "blocks written (raw and fill) and blocks skipped (all other)"."""
+    return chunk.kind in (RAW, FILL)
 
 
 def is_total_size(header: Header, chunk_type: int, blocks: int, total_size: int) -> bool:
@@ -200,9 +209,12 @@ def is_checksum_wrong(image: bytes, header: Header, chunks: List[Chunk]) -> bool
 
 
 def count(chunks: List[Chunk]) -> Accepted:
-    """Blocks written (raw and fill) and blocks skipped (all other)."""
-    skipped = sum(chunk.blocks for chunk in chunks if chunk.kind == SKIP)
-    return Accepted(sum(chunk.blocks for chunk in chunks) - skipped, skipped)
+    """The blocks of the chunks that are written, and of the others by their kind."""
+    return Accepted(
+        written=sum(chunk.blocks for chunk in chunks if is_written(chunk)),
+        dont_care=sum(chunk.blocks for chunk in chunks if chunk.kind == DONT_CARE),
+        unknown=sum(chunk.blocks for chunk in chunks if chunk.kind == UNKNOWN),
+    )
 
 
 def judge(image: bytes, partition_length: int) -> Verdict:

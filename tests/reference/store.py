@@ -30,7 +30,7 @@ def stored_blocks(image: bytes) -> List[Block]:
     return [
         Block((chunk.first_block + i) * size, block_data(image, size, chunk, i))
         for chunk in sparse.chunks_of(image)
-        if chunk.kind != sparse.SKIP
+        if sparse.is_written(chunk)
         for i in range(chunk.blocks)
     ]
 
@@ -138,7 +138,7 @@ def bytes_given(image: bytes, partition_length: int) -> List[Optional[int]]:
         return given
     block_size = sparse.read_header(image).block_size
     for chunk in sparse.chunks_of(image):
-        if chunk.kind != sparse.SKIP:
+        if sparse.is_written(chunk):
             first = chunk.first_block * block_size
             for i in range(chunk.blocks * block_size):
                 source = i if chunk.kind == sparse.RAW else i % 4

@@ -1,4 +1,4 @@
-"""Holds the passes of change requests 1 and 2 against document 02 and the whole forms.
+"""Holds the passes of change requests 1 to 3 against document 02 and the whole forms.
 
 Run by `python3 tests/reference/test_passes.py`.
 """
@@ -21,6 +21,7 @@ from cases_sparse import Case
 from passes import Answer, GoingOn, State
 from sparse import Accepted, Refusal
 
+P7 = build.two_chunks(second_type=0xCAC5)
 GOING_ON = GoingOn()
 OLD = bytes(range(100, 112))
 LARGEST_LENT = 4096
@@ -50,10 +51,12 @@ class Arrived(NamedTuple):
 
 
 class Look(NamedTuple):
-    """What a prefix shows: the refusal that is known by it, and the bytes due."""
+    """What a prefix shows: the refusal that is known by it, the bytes due, and the three
+    counts of the chunks that passed their tests."""
 
     refusal: Optional[Refusal]
     due: Dict[int, int]
+    counts: Accepted
 
 
 def header_refusal(arrived: Arrived, length: int, room: int) -> Optional[Refusal]:
@@ -79,9 +82,13 @@ def header_refusal(arrived: Arrived, length: int, room: int) -> Optional[Refusal
 
 
 def chunk_refusal(
-    arrived: Arrived, length: int, room: int, due: Optional[Dict[int, int]]
+    arrived: Arrived,
+    length: int,
+    room: int,
+    due: Optional[Dict[int, int]],
+    passed: List[build.ChunkPlan],
 ) -> Optional[Refusal]:
-    """Tests 7 to 11, and what is due of each chunk that passes."""
+    """Tests 7 to 11, the chunks that pass, and what is due of each."""
     at, chunk_size = arrived.read(8, 2), arrived.read(10, 2)
     block_size, total = arrived.read(12, 4), arrived.read(16, 4)
     blocks = 0
@@ -99,6 +106,7 @@ def chunk_refusal(
             return Refusal(7, at)
         if blocks + count > total:
             return Refusal(9, at)
+        passed.append(build.ChunkPlan(kind, count))
         data = arrived.prefix[at + chunk_size:at + size]
         first = blocks * block_size
         if due is not None and kind == 0xCAC1:
@@ -119,15 +127,16 @@ def chunk_refusal(
 def look(prefix: bytes, length: int, room: int) -> Look:
     """What is known when a prefix of an image of the announced length has come."""
     due: Dict[int, int] = {}
+    passed: List[build.ChunkPlan] = []
     arrived = Arrived(prefix)
     try:
         refusal = header_refusal(arrived, length, room)
         if refusal is None:
             kept = due if room <= LARGEST_LENT else None
-            refusal = chunk_refusal(arrived, length, room, kept)
+            refusal = chunk_refusal(arrived, length, room, kept, passed)
     except NotYet:
         refusal = None
-    return Look(refusal, due)
+    return Look(refusal, due, Accepted(*build.planned_counts(passed)))
 
 
 def with_due(partition: bytes, due: Dict[int, int]) -> bytes:
@@ -191,7 +200,8 @@ def all_cases() -> List[Case]:
     cases += cases_sparse.block_size_cases() + cases_sparse.type_cases()
     cases += cases_sparse.raw_product_cases() + cases_sparse.long_run_cases(rng)
     cases += cases_sparse.header_order_cases() + cases_sparse.chunk_order_cases()
-    return cases + cases_sparse.checksum_cases() + cases_sparse.random_cases(rng)
+    cases += cases_sparse.checksum_cases() + cases_sparse.count_cases()
+    return cases + cases_sparse.random_cases(rng)
 
 
 def accepted_cases() -> List[Case]:
@@ -410,7 +420,8 @@ class TestCutStates(unittest.TestCase):
         for come, moment in enumerate(stored(by_bytes(P2), 56, OLD)[:-1], 1):
             left = OLD if come < 44 else b"\xFF" * 4 + OLD[4:]
             self.assertEqual(moment, Moment(GOING_ON, left))
-        self.assertEqual(stored([RAW], len(RAW), OLD)[-1], Moment(Accepted(2, 1), new + OLD[8:]))
+        moments = stored([RAW], len(RAW), OLD)
+        self.assertEqual(moments[-1], Moment(Accepted(2, 1, 0), new + OLD[8:]))
 
 
 class TestLateRefusals(unittest.TestCase):
@@ -466,7 +477,7 @@ class TestNoneStated(unittest.TestCase):
             self.assertEqual(judged(pieces, 56, 12), judged(others, 56, 12))
             self.assertEqual(stored(pieces, 56, OLD), stored(others, 56, OLD))
         left = b"\xFF" * 4 + OLD[4:]
-        self.assertEqual(stored([p8], 56, OLD)[-1], Moment(Accepted(1, 2), left))
+        self.assertEqual(stored([p8], 56, OLD)[-1], Moment(Accepted(1, 2, 0), left))
 
     def test_p2_with_checksum_1(self) -> None:
         """"a checksum of 1 there still gives 11"."""
@@ -508,6 +519,52 @@ class TestNoneStated(unittest.TestCase):
             self.assertEqual(sums[:header.file_header_size], start)
             self.assertEqual(sums[-1], header.checksum ^ crc.ALL_ONES)
             self.assertEqual(self.sums(build.stating(image, 1)), sums)
+
+
+class TestCounts(unittest.TestCase):
+    """CR 3: "an accepted answer gives three counts whose sum is the total"."""
+
+    def images(self) -> List[bytes]:
+        """Accepted images with chunks of every kind, and P2 and P7."""
+        images = [P2, P7, cases_sparse.base_image(), build.two_chunks(0xCAC5, checksum=0)]
+        images += list(cases_store.SMALL_IMAGES) + cases_sparse.none_stated_images(36, 20)
+        return images + cases_sparse.ordered_images() + cases_sparse.near_images()
+
+    def test_p7(self) -> None:
+        """"But for these counts P7 stays as P2"."""
+        cuttings = list(in_two(P7)) + [by_bytes(P7), [P7]]
+        for pieces, others in zip(cuttings, list(in_two(P2)) + [by_bytes(P2), [P2]]):
+            self.assertEqual(judged(pieces, 56, 12)[-1], Accepted(1, 0, 2))
+            self.assertEqual(judged(others, 56, 12)[-1], Accepted(1, 2, 0))
+            moments, expected = stored(pieces, 56, OLD), stored(others, 56, OLD)
+            self.assertEqual(moments[:-1], expected[:-1])
+            self.assertEqual(moments[-1], Moment(Accepted(1, 0, 2), expected[-1].partition))
+
+    def test_after_every_byte(self) -> None:
+        for image in self.images():
+            room = cases_store.total_length(image)
+            state = passes.begin(len(image), room)
+            for come, byte in enumerate(by_bytes(image), 1):
+                state = passes.judge_piece(state, byte)[0]
+                counts = Accepted(state.written, state.dont_care, state.unknown)
+                self.assertEqual(counts, look(image[:come], len(image), room).counts)
+            total = sparse.read_header(image).total_blocks
+            self.assertEqual(state.written + state.dont_care + state.unknown, total)
+            self.assertEqual(passes.judge_finish(state)[1], counts)
+
+    def test_cut_at_every_byte(self) -> None:
+        for image in cases_sparse.ordered_images()[::5]:
+            old = bytes(64)
+            for pieces in in_two(image):
+                self.assertEqual(judged(pieces, len(image), 64)[-1], Accepted(5, 4, 7))
+                self.assertEqual(stored(pieces, len(image), old)[-1].answer, Accepted(5, 4, 7))
+
+    def test_many_blocks(self) -> None:
+        rng = random.Random(21)
+        for image in cases_sparse.wide_count_images():
+            answers = judged(at_random(rng, image, 7), len(image), 2**48)
+            self.assertEqual(answers[-1], sparse.judge(image, 2**48))
+            self.assertIsInstance(answers[-1], Accepted)
 
 
 class TestNewRefusals(unittest.TestCase):
@@ -606,7 +663,7 @@ class TestNewRefusals(unittest.TestCase):
             self.assertEqual(short, [GOING_ON, Refusal(15, 0)])
 
     def test_after_acceptance(self) -> None:
-        accepted = Accepted(2, 1)
+        accepted = Accepted(2, 1, 0)
         state = self.after(RAW, len(RAW), len(RAW))
         for _ in range(3):
             state, answer = passes.judge_finish(state)
@@ -639,7 +696,7 @@ class TestMixedCalls(unittest.TestCase):
             kept = min(8, max(0, come - 40))
             self.assertEqual(answer, GOING_ON)
             self.assertEqual(left, OLD[:kept] + b"abcdefgh"[kept:] + OLD[8:])
-            self.assertEqual(passes.judge_finish(state)[1], Accepted(2, 1))
+            self.assertEqual(passes.judge_finish(state)[1], Accepted(2, 1, 0))
 
 
 class History:
@@ -679,7 +736,7 @@ class History:
             return self.given, partition
         if piece is not None:
             return GOING_ON, partition
-        return sparse.judge(self.taken, self.room), partition
+        return now.counts, partition
 
 
 class TestAnyCalls(unittest.TestCase):

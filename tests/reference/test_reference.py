@@ -1,8 +1,9 @@
-"""Holds the reference program against document 01, and 02's change request 2.
+"""Holds the reference program against document 01, and 02's change requests 2 and 3.
 
 Run by `python3 tests/reference/test_reference.py`.
 """
 
+import itertools
 import random
 import unittest
 import unittest.mock
@@ -29,6 +30,7 @@ P2 = bytes.fromhex(
     "C3CA 0000 02000000 0C000000"
 )
 P1 = bytes.fromhex("3AFF26ED01000000 1C000C0000100000") + bytes(12)
+P7 = build.with_bytes(P2, 44, b"\xC5\xCA")
 P8 = build.with_bytes(P2, 24, bytes(4))
 ZERO_SUM_WORD = bytes.fromhex("9D0AD96D")
 OLD = bytes(range(100, 112))
@@ -48,7 +50,8 @@ def random_plan(rng: random.Random, block_size: int) -> build.ChunkPlan:
         return build.fill(random_bytes(rng, 4), blocks)
     if kind == 2:
         return build.skip(blocks)
-    return build.unknown(rng.choice([0, 0xCAC0, 0xCAC4]), blocks, bytes(4 * blocks))
+    other = rng.choice(cases_sparse.OTHER_TYPES)
+    return build.unknown(other, blocks, random_bytes(rng, 4 * rng.randrange(4)))
 
 
 def random_image(rng: random.Random) -> bytes:
@@ -129,8 +132,8 @@ class TestSparseExamples(unittest.TestCase):
     def test_p2(self) -> None:
         self.assertEqual(len(P2), 56)
         self.assertEqual(build.two_chunks(), P2)
-        self.assertEqual(sparse.judge(P2, 12), Accepted(1, 2))
-        self.assertEqual(store.store(P2, OLD), (Accepted(1, 2), b"\xFF" * 4 + OLD[4:]))
+        self.assertEqual(sparse.judge(P2, 12), Accepted(1, 2, 0))
+        self.assertEqual(store.store(P2, OLD), (Accepted(1, 2, 0), b"\xFF" * 4 + OLD[4:]))
 
     def test_p3(self) -> None:
         self.assertEqual(sparse.judge(P2, 11), Refusal(6, 0))
@@ -143,16 +146,25 @@ class TestSparseExamples(unittest.TestCase):
         self.assertEqual(sparse.judge(P2 + b"\0", 12), Refusal(10, 56))
 
     def test_p7(self) -> None:
-        image = build.with_bytes(P2, 44, b"\xC5\xCA")
-        self.assertEqual(sparse.judge(image, 12), Accepted(1, 2))
-        self.assertEqual(store.store(image, OLD), store.store(P2, OLD))
+        """02, CR 3: "But for these counts P7 stays as P2"."""
+        self.assertEqual(build.two_chunks(second_type=0xCAC5), P7)
+        for length in (12, 13, 2**64 - 1):
+            self.assertEqual(sparse.judge(P7, length), Accepted(1, 0, 2))
+        for length in (0, 11):
+            self.assertEqual(sparse.judge(P7, length), sparse.judge(P2, length))
+        self.assertEqual(store.store(P7, OLD), (Accepted(1, 0, 2), b"\xFF" * 4 + OLD[4:]))
+        for limit in (0, 1, 2, 2**64 - 1):
+            stored = store.store_limited(P7, OLD, limit)
+            expected = store.store_limited(P2, OLD, limit)
+            self.assertEqual(stored, expected._replace(verdict=Accepted(1, 0, 2)))
+        self.assertEqual(store.cut_state(P7, OLD, 0, b"??"), b"??" + OLD[2:])
 
     def test_p8(self) -> None:
         """02, CR 2: "P8 becomes an acceptance equal to P2"."""
         self.assertEqual(build.two_chunks(checksum=0), P8)
         for length in (11, 12, 13, 2**64 - 1):
             self.assertEqual(sparse.judge(P8, length), sparse.judge(P2, length))
-        self.assertEqual(store.store(P8, OLD), (Accepted(1, 2), b"\xFF" * 4 + OLD[4:]))
+        self.assertEqual(store.store(P8, OLD), (Accepted(1, 2, 0), b"\xFF" * 4 + OLD[4:]))
         for limit in (0, 1, 2, 2**64 - 1):
             stored = store.store_limited(P8, OLD, limit)
             self.assertEqual(stored, store.store_limited(P2, OLD, limit))
@@ -186,9 +198,9 @@ class TestSparseRefusals(unittest.TestCase):
     def test_header_is_passed_over(self) -> None:
         for file_size, chunk_size in ((32, 12), (28, 16), (400, 40), (65532, 12)):
             image = build.two_chunks(file_header_size=file_size, chunk_header_size=chunk_size)
-            self.assertEqual(sparse.judge(image, 12), Accepted(1, 2))
+            self.assertEqual(sparse.judge(image, 12), Accepted(1, 2, 0))
             self.assertEqual(store.store(image, OLD)[1], b"\xFF" * 4 + OLD[4:])
-        self.assertEqual(sparse.judge(build.two_chunks(minor=65535), 12), Accepted(1, 2))
+        self.assertEqual(sparse.judge(build.two_chunks(minor=65535), 12), Accepted(1, 2, 0))
 
     def test_bytes_left(self) -> None:
         for length in range(28, 40):
@@ -260,10 +272,10 @@ class TestSparseRefusals(unittest.TestCase):
             self.check(build.two_chunks(checksum=checksum) + b"\0", 10, 56)
 
     def test_empty(self) -> None:
-        self.assertEqual(sparse.judge(build.sparse_image(4, []), 0), Accepted(0, 0))
+        self.assertEqual(sparse.judge(build.sparse_image(4, []), 0), Accepted(0, 0, 0))
         self.check(build.sparse_image(4, [], checksum=1), 11, 24)
         plans = [build.raw(b"", 4), build.fill(b"abcd", 0), build.skip(0), build.unknown(7, 0)]
-        self.assertEqual(sparse.judge(build.sparse_image(4, plans), 0), Accepted(0, 0))
+        self.assertEqual(sparse.judge(build.sparse_image(4, plans), 0), Accepted(0, 0, 0))
 
 
 class TestNoneStated(unittest.TestCase):
@@ -307,7 +319,8 @@ class TestNoneStated(unittest.TestCase):
             self.check(image)
         for plan in (build.raw(ZERO_SUM_WORD, 4), build.fill(ZERO_SUM_WORD, 1)):
             image = build.sparse_image(4, [plan])
-            self.assertEqual(store.store(image, OLD), (Accepted(1, 0), ZERO_SUM_WORD + OLD[4:]))
+            stored = store.store(image, OLD)
+            self.assertEqual(stored, (Accepted(1, 0, 0), ZERO_SUM_WORD + OLD[4:]))
             self.check(image)
 
     def test_any_data(self) -> None:
@@ -330,8 +343,105 @@ class TestNoneStated(unittest.TestCase):
 
     def test_no_checksum_is_worked_out(self) -> None:
         with unittest.mock.patch("sparse.image_checksum", side_effect=AssertionError):
-            self.assertEqual(sparse.judge(P8, 12), Accepted(1, 2))
+            self.assertEqual(sparse.judge(P8, 12), Accepted(1, 2, 0))
             self.assertRaises(AssertionError, sparse.judge, P2, 12)
+
+
+WORDS = {0xCAC1: "raw", 0xCAC2: "fill", 0xCAC3: "skip"}
+
+
+class TestCounts(unittest.TestCase):
+    """02, CR 3: "three counts whose sum is the total: written, don't care, unknown"."""
+
+    def listing(self, block_size: int, plans: Sequence[build.ChunkPlan]) -> str:
+        """What the lister prints for some chunks."""
+        first = 0
+        text = ""
+        for plan in plans:
+            text += f"{first} {WORDS.get(plan.type, 'unknown')} {plan.blocks}\n"
+            first += plan.blocks
+        written, dont_care, unknown = build.planned_counts(plans)
+        head = f"block {block_size} total {first} chunks {len(plans)}\n"
+        return head + text + f"ok written {written} skipped {dont_care} unknown {unknown}\n"
+
+    def check(self, block_size: int, plans: Sequence[build.ChunkPlan], **given: int) -> Accepted:
+        """Each count is what the chunks of its kinds hold, in every form."""
+        image = build.sparse_image(block_size, plans, **given)
+        counts = Accepted(*build.planned_counts(plans))
+        total = sparse.read_header(image).total_blocks
+        self.assertEqual(counts.written + counts.dont_care + counts.unknown, total)
+        self.assertEqual(sparse.judge(image, total * block_size), counts)
+        old = bytes((37 + 11 * i) % 256 for i in range(total * block_size + 5))
+        self.assertEqual(store.store(image, old)[0], counts)
+        for limit in (0, 1, counts.written, counts.written + 1):
+            stored = store.store_limited(image, old, limit)
+            self.assertEqual(stored.verdict, counts)
+            self.assertEqual(stored.count, min(limit, counts.written))
+        self.assertEqual(lister.listing(image), self.listing(block_size, plans))
+        return counts
+
+    def test_random_images(self) -> None:
+        rng = random.Random(8)
+        for _ in range(300):
+            block_size = rng.choice([4, 8, 12])
+            plans = [random_plan(rng, block_size) for _ in range(rng.randrange(9))]
+            self.check(block_size, plans, chunk_header_size=rng.choice([12, 16]))
+
+    def test_all_kinds_in_every_order(self) -> None:
+        for plans in cases_sparse.ordered_plans():
+            self.assertEqual(self.check(4, plans), Accepted(5, 4, 7))
+        for image in cases_sparse.ordered_images():
+            self.assertEqual(sparse.judge(image, 64), Accepted(5, 4, 7))
+
+    def test_every_type(self) -> None:
+        kinds = {0xCAC1: sparse.RAW, 0xCAC2: sparse.FILL, 0xCAC3: sparse.DONT_CARE}
+        for chunk_type in range(65536):
+            kind = kinds.get(chunk_type, sparse.UNKNOWN)
+            self.assertEqual(sparse.chunk_kind(chunk_type), kind)
+
+    def test_types_near_the_known_ones(self) -> None:
+        counts = [sparse.judge(image, 1000) for image in cases_sparse.near_images()]
+        self.assertEqual(counts, [Accepted(1, 2, 120), Accepted(1, 2, 120), Accepted(1, 2, 105)])
+
+    def test_a_chunk_says_whether_its_type_is_known(self) -> None:
+        image = build.sparse_image(8, cases_sparse.KIND_PLANS)
+        kinds = ["raw", "fill", "don't care", "unknown", "raw", "fill", "don't care", "unknown"]
+        self.assertEqual([chunk.kind for chunk in sparse.chunks_of(image)], kinds)
+        for other in cases_sparse.OTHER_TYPES + (0x4AC3, 0xCAC9):
+            chunks = sparse.chunks_of(build.two_chunks(second_type=other))
+            self.assertEqual([chunk.kind for chunk in chunks], ["fill", "unknown"])
+
+    def test_data_and_empty_ones(self) -> None:
+        data = b"data" * 9
+        for other in cases_sparse.OTHER_TYPES:
+            for length in (0, 4, 8, 36):
+                unknown = build.unknown(other, 3, data[:length])
+                empty = build.unknown(other, 0, data[:length])
+                self.assertEqual(self.check(4, [unknown]), Accepted(0, 0, 3))
+                self.assertEqual(self.check(4, [empty]), Accepted(0, 0, 0))
+                plans = [empty, build.skip(2), unknown, build.raw(b"abcd", 4), empty, unknown]
+                self.assertEqual(self.check(4, plans), Accepted(1, 2, 6))
+
+    def test_only_the_type_differs(self) -> None:
+        """Any unknown type is as don't care, but for the counts."""
+        for other in cases_sparse.OTHER_TYPES:
+            image = build.two_chunks(second_type=other)
+            self.assertEqual(store.store(image, OLD), store.store(P7, OLD))
+            self.assertEqual(lister.listing(image), lister.listing(P7))
+            for damaged, length in ((image + b"\0", 12), (image[:55], 12), (image, 11)):
+                known = build.with_bytes(damaged, 44, b"\xC3\xCA")
+                self.assertEqual(sparse.judge(damaged, length), sparse.judge(known, length))
+
+    def test_many_blocks(self) -> None:
+        found = []
+        for image in cases_sparse.wide_count_images():
+            verdict = sparse.judge(image, 2**48)
+            assert isinstance(verdict, Accepted)
+            found.append((verdict.written, verdict.dont_care, verdict.unknown))
+            self.assertEqual(sum(found[-1]), 2**32 - 1)
+        self.assertEqual(len(set(found)), 18)
+        for counts in ((1, 2, 2**32 - 4), (2**31, 2**30, 2**30 - 1), (0, 2**16, 2**32 - 65537)):
+            self.assertLessEqual(set(itertools.permutations(counts)), set(found))
 
 
 class TestWideNumbers(unittest.TestCase):
@@ -342,7 +452,7 @@ class TestWideNumbers(unittest.TestCase):
             image = build.sparse_image(size, [build.skip(blocks)])
             self.assertEqual(sparse.judge(image, 4096), Refusal(6, 0))
             self.assertEqual(sparse.judge(image, blocks * size - 1), Refusal(6, 0))
-            self.assertEqual(sparse.judge(image, blocks * size), Accepted(0, blocks))
+            self.assertEqual(sparse.judge(image, blocks * size), Accepted(0, blocks, 0))
 
     def test_raw_product(self) -> None:
         for blocks, size, stated in (
@@ -367,7 +477,7 @@ class TestWideNumbers(unittest.TestCase):
 
     def test_largest(self) -> None:
         image = build.sparse_image(65536, [build.fill(b"wxyz", 0xFFFFFFFF)])
-        self.assertEqual(sparse.judge(image, 2**48), Accepted(0xFFFFFFFF, 0))
+        self.assertEqual(sparse.judge(image, 2**48), Accepted(0xFFFFFFFF, 0, 0))
 
 
 class TestMistakes(unittest.TestCase):
@@ -376,7 +486,8 @@ class TestMistakes(unittest.TestCase):
     def test_skipped_blocks_keep_their_bytes(self) -> None:
         plans = [build.skip(1), build.raw(b"abcd", 4), build.unknown(9, 1, b"zzzz")]
         image = build.sparse_image(4, plans)
-        self.assertEqual(store.store(image, OLD), (Accepted(1, 2), OLD[:4] + b"abcd" + OLD[8:]))
+        after = OLD[:4] + b"abcd" + OLD[8:]
+        self.assertEqual(store.store(image, OLD), (Accepted(1, 1, 1), after))
 
     def test_wrong_checksum_stores_nothing(self) -> None:
         image = build.two_chunks(checksum=1)
@@ -412,10 +523,10 @@ class TestStore(unittest.TestCase):
         for limit, last in enumerate((0, 1, 2, 4, 5)):
             stored = store.store_limited(image, old, limit)
             expected = b"".join(new[:last]) + old[4 * last:]
-            self.assertEqual(stored, store.Stored(Accepted(4, 1), limit, expected))
+            self.assertEqual(stored, store.Stored(Accepted(4, 1, 0), limit, expected))
         for limit in (4, 5, 2**64):
             stored = store.store_limited(image, old, limit)
-            self.assertEqual(stored, store.Stored(Accepted(4, 1), 4, b"".join(new)))
+            self.assertEqual(stored, store.Stored(Accepted(4, 1, 0), 4, b"".join(new)))
         torn = store.cut_state(image, old, 2, b"????")
         self.assertEqual(torn, b"wxyzwxyz" + old[8:12] + b"????" + old[16:])
         self.assertEqual(store.cut_state(image, old, 4, b"????"), b"".join(new))
@@ -527,7 +638,7 @@ class TestWriter(unittest.TestCase):
             image = written.output[:written.length]
             partition = random_bytes(rng, len(flat) + rng.randrange(9))
             verdict, after = store.store(image, partition)
-            self.assertEqual(verdict, Accepted(len(flat) // block_size, 0))
+            self.assertEqual(verdict, Accepted(len(flat) // block_size, 0, 0))
             self.assertEqual(after, flat + partition[len(flat):])
 
     def test_a_true_checksum_of_0(self) -> None:
@@ -537,7 +648,7 @@ class TestWriter(unittest.TestCase):
             image = writer.image_of(flat, block_size)
             self.assertEqual(sparse.read_header(image).checksum, 0)
             old = b"\x5C" * (len(flat) + 3)
-            verdict = Accepted(len(flat) // block_size, 0)
+            verdict = Accepted(len(flat) // block_size, 0, 0)
             self.assertEqual(store.store(image, old), (verdict, flat + old[len(flat):]))
             self.assertEqual(store.store(build.stating(image, 1), old), (Refusal(11, 24), old))
 
@@ -736,7 +847,13 @@ class TestLister(unittest.TestCase):
     def test_p2(self) -> None:
         self.assertEqual(
             lister.listing(P2),
-            "block 4 total 3 chunks 2\n0 fill 1\n1 skip 2\nok written 1 skipped 2\n",
+            "block 4 total 3 chunks 2\n0 fill 1\n1 skip 2\nok written 1 skipped 2 unknown 0\n",
+        )
+
+    def test_p7(self) -> None:
+        self.assertEqual(
+            lister.listing(P7),
+            "block 4 total 3 chunks 2\n0 fill 1\n1 unknown 2\nok written 1 skipped 0 unknown 2\n",
         )
 
     def test_checksums(self) -> None:
@@ -752,7 +869,8 @@ class TestLister(unittest.TestCase):
         plans = [build.raw(b"", 4), build.raw(b"abcdefgh", 4), build.unknown(1, 3)]
         self.assertEqual(
             lister.listing(build.sparse_image(4, plans)),
-            "block 4 total 5 chunks 3\n0 raw 0\n0 raw 2\n2 skip 3\nok written 2 skipped 3\n",
+            "block 4 total 5 chunks 3\n0 raw 0\n0 raw 2\n2 unknown 3\n"
+            "ok written 2 skipped 0 unknown 3\n",
         )
 
 

@@ -4,6 +4,7 @@ import os
 import struct
 import tempfile
 import unittest
+import unittest.mock
 from typing import Callable, Dict, Iterator, List, Tuple
 
 import build
@@ -29,10 +30,16 @@ LARGEST_OUTPUT = 450_000
 Lines = Iterator[Tuple[int, ...]]
 
 
+def refusal_values(verdict: sparse.Verdict) -> Tuple[int, ...]:
+    """Number and place."""
+    return (verdict.number, verdict.place) if isinstance(verdict, sparse.Refusal) else (0, 0)
+
+
 def verdict_values(verdict: sparse.Verdict) -> Tuple[int, ...]:
+    """Number, place and the three counts."""
     if isinstance(verdict, sparse.Refusal):
-        return verdict.number, verdict.place, 0, 0
-    return 0, 0, verdict.written, verdict.skipped
+        return refusal_values(verdict) + (0, 0, 0)
+    return 0, 0, verdict.written, verdict.dont_care, verdict.unknown
 
 
 def crc_lines(data: bytes) -> Lines:
@@ -112,7 +119,7 @@ def store_step(
         answer = verdict_values(verdict)
     else:
         stored = store.store_limited(image, partition, limit)
-        answer = verdict_values(stored.verdict)[:2] + (stored.count,)
+        answer = refusal_values(stored.verdict) + (stored.count,)
         after = stored.partition
         if count != 0:
             next_block = store.torn_block(image, partition, limit)
@@ -137,8 +144,9 @@ def write_lines(data: bytes) -> Lines:
 
 
 def answer_values(answer: Answer, finishing: bool) -> Tuple[int, ...]:
-    values = (0, 0, 0, 0) if isinstance(answer, GoingOn) else verdict_values(answer)
-    return values if finishing else values[:2]
+    if isinstance(answer, GoingOn):
+        return (0, 0)
+    return verdict_values(answer) if finishing else refusal_values(answer)
 
 
 def pass_call(
@@ -244,6 +252,21 @@ class TestVectors(unittest.TestCase):
         ]
         self.assertIn(build.two_chunks(checksum=0), found)
         self.assertGreater(len(found), 30)
+
+    def test_three_counts(self) -> None:
+        """Many answers have three counts that differ, none of them 0, so that no two can
+        be swapped or put together unseen."""
+        for name in ("sparse", "store", "passes"):
+            data = self.made[os.path.join("data", name + ".bin")]
+            with unittest.mock.patch(f"{__name__}.verdict_values", wraps=verdict_values) as asked:
+                for _ in READERS[name](data):
+                    pass
+            verdicts = [call.args[0] for call in asked.call_args_list]
+            found = [
+                verdict for verdict in verdicts if isinstance(verdict, sparse.Accepted)
+                and len({0, verdict.written, verdict.dont_care, verdict.unknown}) == 4
+            ]
+            self.assertGreater(len(found), 100, name)
 
     def test_patches_give_the_image(self) -> None:
         images = (b"", bytes(9), b"\x01", bytes(8) + b"\x01" + bytes(9) + b"\x02\0")

@@ -67,8 +67,8 @@ boot     case:  image
                 empty or not; 0 0 0 for all others and when refused.
 
 sparse   case:  partition length u64, image
-         values: NUMBER of the refusal or 0; its PLACE, or 0; blocks WRITTEN
-                and SKIPPED, both 0 when refused.
+         values: NUMBER of the refusal or 0; its PLACE, or 0; blocks WRITTEN,
+                DON'T CARE and UNKNOWN, all 0 when refused.
 
 store    case:  size u32 (of the whole case), length u32 (at most 4,096), seed u32
                 (at most 255), steps u32, each step; then the images (of at most
@@ -82,10 +82,10 @@ store    case:  size u32 (of the whole case), length u32 (at most 4,096), seed u
                 be stored, and count is 0 where there is none.  The steps are
                 those of some runs of a list of images that are cut, and of one
                 full run at last.
-         values: for each step NUMBER PLACE WRITTEN SKIPPED as in `sparse` (form
-                0), or NUMBER of the cut form's refusal or 0, its PLACE, or 0,
-                and the COUNT of blocks that it stored, 0 when refused (form 1);
-                then the CHECKSUM of the partition after the torn block.
+         values: for each step NUMBER, PLACE and the three counts as in `sparse`
+                (form 0), or NUMBER of the cut form's refusal or 0, its PLACE,
+                or 0, and the COUNT of blocks that it stored, 0 when refused
+                (form 1); then the CHECKSUM of the partition after the torn block.
 
 passes   case:  size, length, seed, steps as in `store`; each step; then some bytes.
          step:  form u16, lent u16, at u16, count u16; where form is 2: form u16, 0
@@ -97,8 +97,8 @@ passes   case:  size, length, seed, steps as in `store`; each step; then some by
                 bytes at offset `at` of the case; the storing pass is lent the first
                 `lent` bytes of the partition.  What a form lacks is 0.
          values: for each step but those of form 2 NUMBER of the refusal or 0; its
-                PLACE, or 0; of a finishing blocks WRITTEN and SKIPPED, both 0 unless
-                it accepts; then the CHECKSUM of the bytes that were lent.
+                PLACE, or 0; of a finishing the three counts as in `sparse`, all 0
+                unless it accepts; then the CHECKSUM of the bytes that were lent.
 
 write    case:  block size u32, length u32 (at most 69,632), flat bytes in the
                 form of an image

@@ -12,7 +12,8 @@ use Rattle.crc32_rules.specs.Power.{repeated}
 use Rattle.crc32_rules.proofs.Laws.{crc-nil, crc-zeros-add}
 use Rattle.sparse_rules.specs.declared.Kind.the-variants.{Raw, Fill}
 use Rattle.sparse_rules.specs.declared.Chunk.{Chunk}
-use Rattle.sparse_rules.specs.Cells.{cellsOf, zeroed, writes}
+use Rattle.sparse_rules.specs.Cells.{cellsOf, zeroed}
+use Rattle.sparse_rules.specs.Counts.{writes}
 use Rattle.sparse_rules.specs.Facts.{Summable}
 use Rattle.sparse_rules.proofs.SumLaws.{sum-raw, sum-fill, sum-kept}
 use Rattle.sparse_judge.specs.declared.sum.Sum.{Sum}

@@ -11,11 +11,11 @@ use Rattle.crc32_rules.specs.Crc.{crcFrom, allOnes}
 use Rattle.sparse_rules.specs.declared.Header.{Header}
 use Rattle.sparse_rules.specs.declared.Cursor.{Cursor}
 use Rattle.sparse_rules.specs.declared.Chunk.{Chunk}
+use Rattle.sparse_rules.specs.declared.Counts.{Counts}
 use Rattle.rules.specs.Answer.{refused, accepted, unless}
 use Rattle.sparse_rules.specs.Chunks.{chunk, reading}
 use Rattle.sparse_rules.specs.Walk.{walk, origin}
 use Rattle.sparse_rules.specs.Cells.{cellsOf, cells, zeroed, checksumOf}
-use Rattle.sparse_rules.specs.Answers.{counts}
 use Rattle.rules.specs.First.{first}
 use Rattle.sparse_rules.specs.Header.{headerOf, blockSize, statedChecksum}
 use Rattle.sparse_rules.specs.Judge.{sumTests, structure}
@@ -46,9 +46,9 @@ stated-is : (s : List ℕ) (h : Header) → h ≡ headerOf s → h .checksum ≡
 stated-is s h g = ap (λ (y : Header). y .checksum) g
 
 -- none is stated
-pub none-is-stated : (s : List ℕ) (h : Header) (ks : List Chunk) → h ≡ headerOf s → (w m : ℕ) → h .checksum ≡ 0
-    → counts w m ≡ unless (first (sumTests s ks)) 24 (counts w m)
-none-is-stated s h ks g w m z = rw (sum-none s ks (sym (stated-is s h g) ∙ z))
+pub none-is-stated : (s : List ℕ) (h : Header) (ks : List Chunk) → h ≡ headerOf s → (t : Counts) → h .checksum ≡ 0
+    → accepted t ≡ unless (first (sumTests s ks)) 24 (accepted t)
+none-is-stated s h ks g t z = rw (sum-none s ks (sym (stated-is s h g) ∙ z))
 
 module _ (s : List ℕ) (h : Header) (n : ℕ) (c : Cursor) (state : ℕ) (i : Summing s h n c state) where
   -- a chunk that is read
@@ -83,16 +83,16 @@ module _ (s : List ℕ) (h : Header) (n : ℕ) (c : Cursor) (state : ℕ) (i : S
         ∙ ap (λ (y : ℕ). bitXor y allOnes) (sum-nil state s (h .block))
         ∙ sym f
 
-    module _ (g : h ≡ headerOf s) (w m : ℕ) where
+    module _ (g : h ≡ headerOf s) (t : Counts) where
       true-sum : checksumOf s (blockSize s) ks ≡ x
       true-sum = ap (λ (y : Header). checksumOf s (y .block) ks) (sym g) ∙ summing-done
 
       -- the checksum differs from the stated one
-      pub summing-differs : (h .checksum ≡ 0 → ⊥) → (x ≡ h .checksum → ⊥) → refused 11 24 ≡ unless (first (sumTests s ks)) 24 (counts w m)
+      pub summing-differs : (h .checksum ≡ 0 → ⊥) → (x ≡ h .checksum → ⊥) → refused 11 24 ≡ unless (first (sumTests s ks)) 24 (accepted t)
       summing-differs o d = rw (sum-refused s ks (λ e. o (stated-is s h g ∙ e)) (λ e. d (sym true-sum ∙ e ∙ sym (stated-is s h g))))
 
       -- it is the stated one
-      pub summing-agrees : x ≡ h .checksum → counts w m ≡ unless (first (sumTests s ks)) 24 (counts w m)
+      pub summing-agrees : x ≡ h .checksum → accepted t ≡ unless (first (sumTests s ks)) 24 (accepted t)
       summing-agrees d = rw (sum-passed s ks (true-sum ∙ d ∙ stated-is s h g))
 
 -- ---- zeros that wait

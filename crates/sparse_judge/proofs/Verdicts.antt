@@ -8,12 +8,13 @@ use lib.ListN.{length}
 use Rattle.rules.specs.First.{first}
 use Rattle.sparse_rules.specs.declared.Header.{Header}
 use Rattle.sparse_rules.specs.declared.Chunk.{Chunk}
+use Rattle.sparse_rules.specs.declared.Counts.{Counts}
 use Rattle.sparse_rules.specs.Header.{headerOf, headerTests}
 use Rattle.sparse_rules.specs.Walk.{Finding, walk, origin}
-use Rattle.sparse_rules.specs.Cells.{written, skipped}
+use Rattle.sparse_rules.specs.Counts.{countsOf}
 use Rattle.sparse_rules.specs.Judge.{sumTests, structure}
 use Rattle.rules.specs.Answer.{Answer, refused, accepted, unless}
-use Rattle.sparse_rules.specs.Answers.{Counts, counts, answerFor, answer}
+use Rattle.sparse_rules.specs.Answers.{answerFor, answer}
 use Rattle.sparse_rules.proofs.Facts.{judged-header, judged-structure, judged-sum}
 use Rattle.sparse_rules.proofs.Image.{structure-walk}
 use Rattle.rules.proofs.Answer.{onward-unless}
@@ -23,8 +24,8 @@ abbrev pub found : List ℕ → Header → Finding
 found s h = walk s (length s) h (h .chunks) (origin h)
 
 -- what the second walk answers for counts of blocks
-abbrev pub Checked : List ℕ → ℕ → ℕ → Answer Counts → Type 0
-Checked s w q a = (ks : List Chunk) → structure s (length s) ≡ accepted ks → a ≡ unless (first (sumTests s ks)) 24 (counts w q)
+abbrev pub Checked : List ℕ → Counts → Answer Counts → Type 0
+Checked s c a = (ks : List Chunk) → structure s (length s) ≡ accepted ks → a ≡ unless (first (sumTests s ks)) 24 (accepted c)
 
 module _ (s : List ℕ) (room : ℕ) where
   -- a header that is refused
@@ -40,18 +41,18 @@ module _ (s : List ℕ) (room : ℕ) where
     refused-at (refused m at) e n place q = rw (judged-structure s (length s) room passed m at e) q
     refused-at (accepted ks) e n place q = cc
 
-    checked-at : (f : Finding) → structure s (length s) ≡ f → (w k : ℕ) (a : Answer Counts) → counts w k ≡ answerFor f → Checked s w k a → a ≡ answer s (length s) room
+    checked-at : (f : Finding) → structure s (length s) ≡ f → (c : Counts) (a : Answer Counts) → accepted c ≡ answerFor f → Checked s c a → a ≡ answer s (length s) room
     unfolding answer answerFor
-    checked-at (refused m at) e w k a q f = let z : _≡_ {A = ℕ} 0 1 = cc in absurd (omega arith)
-    checked-at (accepted ks) e w k a q f =
+    checked-at (refused m at) e c a q f = let z : _≡_ {A = ℕ} 0 1 = cc in absurd (omega arith)
+    checked-at (accepted ks) e c a q f =
         f ks e
         ∙ ap (unless (first (sumTests s ks)) 24) q
-        ∙ sym (ap answerFor (judged-sum s (length s) room passed ks e) ∙ onward-unless (first (sumTests s ks)) 24 (accepted ks) (λ ls. counts (written ls) (skipped ls)))
+        ∙ sym (ap answerFor (judged-sum s (length s) room passed ks e) ∙ onward-unless (first (sumTests s ks)) 24 (accepted ks) (λ ls. accepted (countsOf ls)))
 
     -- a structure that is refused
     pub answer-structure : (h : Header) → h ≡ headerOf s → (n place : ℕ) → refused n place ≡ answerFor (found s h) → refused n place ≡ answer s (length s) room
     answer-structure h e n place q = refused-at (structure s (length s)) refl n place (q ∙ ap answerFor (structure-walk s (length s) h e))
 
     -- a structure that holds
-    pub answer-checked : (h : Header) → h ≡ headerOf s → (w k : ℕ) (a : Answer Counts) → counts w k ≡ answerFor (found s h) → Checked s w k a → a ≡ answer s (length s) room
-    answer-checked h e w k a q f = checked-at (structure s (length s)) refl w k a (q ∙ ap answerFor (structure-walk s (length s) h e)) f
+    pub answer-checked : (h : Header) → h ≡ headerOf s → (c : Counts) (a : Answer Counts) → accepted c ≡ answerFor (found s h) → Checked s c a → a ≡ answer s (length s) room
+    answer-checked h e c a q f = checked-at (structure s (length s)) refl c a (q ∙ ap answerFor (structure-walk s (length s) h e)) f

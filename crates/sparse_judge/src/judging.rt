@@ -9,9 +9,9 @@ use sparse_rules::Verdict;
 use sparse_structure::refuse;
 use sparse_structure::structure;
 
-// Whether an image is accepted for a partition of so many bytes, with blocks written and blocks
-// skipped, or its first refusal with its place. Raw data are read last, each byte once, and not at
-// all where no checksum is stated.
+// Whether an image is accepted for a partition of so many bytes, with its counts of blocks, or its
+// first refusal with its place. Raw data are read last, each byte once, and not at all where no
+// checksum is stated.
 pub fn judge(image: &[u8], partition_len: u64) -> Verdict
     ensures { λ r. ⌜ answerOf r ≡ answer (now (image .entry)) (length (now (image .entry))) «partition_len» ⌝ }
 {
@@ -21,8 +21,8 @@ pub fn judge(image: &[u8], partition_len: u64) -> Verdict
     }
     let header = read_header(image);
     let found = structure(image, header);
-    let Verdict::Accepted(written, skipped) = found else {
+    let Verdict::Accepted(counts) = found else {
         return found;
     };
-    checked(image, header, written, skipped)
+    checked(image, header, counts)
 }

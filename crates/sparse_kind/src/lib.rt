@@ -1,7 +1,9 @@
-// The kinds of chunks: what a chunk's type says of it, and the total size that each kind must have.
+// The kinds of chunks: what a chunk's type says of it, the total size that each kind must have, and where its blocks count.
 ghost use mathlib.Core.Path.{_≡_};
 ghost use Rattle.sparse_rules.specs.Chunks.{kindOf, sizeRight};
+ghost use Rattle.sparse_rules.specs.Counts.{countedOn};
 use sparse_header::bytes_of;
+use sparse_rules::Counts;
 use sparse_rules::Header;
 use sparse_rules::Kind;
 
@@ -33,4 +35,19 @@ pub fn size_right(header: Header, kind: Kind, blocks: u32, size: u32) -> bool
         Kind::DontCare => given == head,
         Kind::Unknown => (head <= given) & (given % 4 == 0),
     }
+}
+
+// The counts with so many blocks more, of a chunk of this kind. A count that passes 32 bits begins again at 0; none of an
+// image that is accepted does.
+pub fn count_on(counts: Counts, kind: Kind, blocks: u32) -> Counts
+    ensures { λ r. ⌜ r ≡ countedOn counts kind blocks ⌝ }
+{
+    let mut more = counts;
+    match kind {
+        Kind::Raw => more.written = std::num::wrapping_add_u32(counts.written, blocks),
+        Kind::Fill => more.written = std::num::wrapping_add_u32(counts.written, blocks),
+        Kind::DontCare => more.dont_care = std::num::wrapping_add_u32(counts.dont_care, blocks),
+        Kind::Unknown => more.unknown = std::num::wrapping_add_u32(counts.unknown, blocks),
+    }
+    more
 }

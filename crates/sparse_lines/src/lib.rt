@@ -3,6 +3,7 @@ ghost use Rattle.text_rules.specs.Put.{Put};
 ghost use Rattle.text_rules.specs.Words.{labelled};
 ghost use Rattle.sparse_list_rules.specs.Lines.{kindWord, refusedLine, headerLine, chunkLine, lastLine};
 use sparse_rules::Chunk;
+use sparse_rules::Counts;
 use sparse_rules::Header;
 use sparse_rules::Kind;
 use sparse_rules::Refusal;
@@ -22,8 +23,16 @@ pub fn put_header(out: &mut [u8], header: Header) -> usize
     let block = header.block as u64;
     let total = header.total as u64;
     let chunks = header.chunks as u64;
-    let next = text::put_labelled(out, 0, b"block ", block);
-    text::put_pair(out, next, b" total ", total, b" chunks ", chunks)
+    text::put_triple(
+        out,
+        0,
+        b"block ",
+        block,
+        b" total ",
+        total,
+        b" chunks ",
+        chunks,
+    )
 }
 
 // What a chunk is called, and a number after it.
@@ -34,7 +43,7 @@ fn put_kind(out: &mut [u8], at: usize, kind: Kind, n: u64) -> usize
         Kind::Raw => text::put_labelled(out, at, b" raw ", n),
         Kind::Fill => text::put_labelled(out, at, b" fill ", n),
         Kind::DontCare => text::put_labelled(out, at, b" skip ", n),
-        Kind::Unknown => text::put_labelled(out, at, b" skip ", n),
+        Kind::Unknown => text::put_labelled(out, at, b" unknown ", n),
     }
 }
 
@@ -51,10 +60,20 @@ pub fn put_chunk(out: &mut [u8], at: usize, first: u32, chunk: Chunk) -> usize
 }
 
 // The last line of an accepted image.
-pub fn put_last(out: &mut [u8], at: usize, written: u32, skipped: u32) -> usize
-    ensures { λ r. ⌜ Put (now (out .entry)) at (lastLine written skipped) (now (out .exit)) r ⌝ }
+pub fn put_last(out: &mut [u8], at: usize, counts: Counts) -> usize
+    ensures { λ r. ⌜ Put (now (out .entry)) at (lastLine counts) (now (out .exit)) r ⌝ }
 {
-    let stored = written as u64;
-    let kept = skipped as u64;
-    text::put_pair(out, at, b"ok written ", stored, b" skipped ", kept)
+    let written = counts.written as u64;
+    let skipped = counts.dont_care as u64;
+    let unknown = counts.unknown as u64;
+    text::put_triple(
+        out,
+        at,
+        b"ok written ",
+        written,
+        b" skipped ",
+        skipped,
+        b" unknown ",
+        unknown,
+    )
 }

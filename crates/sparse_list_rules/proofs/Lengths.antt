@@ -9,6 +9,7 @@ use Rattle.sparse_rules.specs.declared.Header.{Header}
 use Rattle.sparse_rules.specs.declared.Kind.{Kind}
 use Rattle.sparse_rules.specs.declared.Kind.the-variants.{Raw, Fill, DontCare, Unknown}
 use Rattle.sparse_rules.specs.declared.Chunk.{Chunk}
+use Rattle.sparse_rules.specs.declared.Counts.{Counts}
 use Rattle.sparse_list_rules.specs.Lines.{kindWord, refusedLine, headerLine, chunkLine, lastLine}
 
 -- what a chunk is called
@@ -36,6 +37,8 @@ chunk-most first k =
     simp length-append (omega (arith, decimal-most first, labelled-most (kindWord (k .kind)) (k .blocks), kind-most (k .kind)))
 
 -- the last line of an accepted image
-pub last-most : (written skipped : ℕ) → length (lastLine written skipped) ≤ 96
+pub last-most : (c : Counts) → length (lastLine c) ≤ 96
 unfolding lastLine
-last-most written skipped = simp length-append (omega (arith, labelled-most (ascii "ok written ") written, labelled-most (ascii " skipped ") skipped))
+last-most c =
+    simp length-append
+    (omega (arith, labelled-most (ascii "ok written ") (c .written), labelled-most (ascii " skipped ") (c .«dont_care»), labelled-most (ascii " unknown ") (c .unknown)))

@@ -1,14 +1,15 @@
 -- The lines of the chunks one after the other, and the text of an input by what the judge answers.
 -- Assumes nothing.
-use mathlib.Core.Path.{_≡_, ap, _∙_}
+use mathlib.Core.Path.{_≡_, sym, ap, _∙_}
 use mathlib.Core.List.{List, _∷_, _++_, append-assoc}
 use Prim.Native.Nat.{ℕ, _+_, _≤_, _<_}
 use lib.ListN.{length}
 use borrow.Author.Tests.{lt-ltb, le-ltb}
 use Rattle.sparse_rules.specs.declared.Chunk.{Chunk}
+use Rattle.sparse_rules.specs.declared.Counts.{Counts}
 use Rattle.rules.specs.Answer.{accepted, refused}
 use Rattle.sparse_rules.specs.Judge.{judged}
-use Rattle.sparse_rules.specs.Answers.{counts, answer}
+use Rattle.sparse_rules.specs.Answers.{answer}
 use Rattle.sparse_rules.proofs.Image.{answer-accepted, answer-refused}
 use Rattle.sparse_list_rules.specs.Lines.{tooLong, refusedLine, chunkLine}
 use Rattle.sparse_list_rules.specs.Listing.{longest, partition, chunkLines, imageLines, listingOf, listing}
@@ -36,9 +37,9 @@ module _ (s : List ℕ) where
     listing-refused n place e = listing-found ∙ ap (listingOf s) (answer-refused s (length s) partition n place e)
 
     -- an accepted image
-    pub listing-accepted : (w k : ℕ) → counts w k ≡ answer s (length s) partition
-        → (ks : List Chunk) × (judged s (length s) partition ≡ accepted ks) × (listing s ≡ imageLines s ks w k)
+    pub listing-accepted : (c : Counts) → accepted c ≡ answer s (length s) partition
+        → (ks : List Chunk) × (judged s (length s) partition ≡ accepted ks) × (listing s ≡ imageLines s ks c)
     unfolding listingOf
-    listing-accepted w k e =
-        let t = answer-accepted s (length s) partition w k e in
-        (t .ks, t .found, listing-found ∙ ap (listingOf s) (t .found) ∙ rw (t .writes, t .skips))
+    listing-accepted c e =
+        let t = answer-accepted s (length s) partition c e in
+        (t .ks, t .found, listing-found ∙ ap (listingOf s) (t .found) ∙ ap (imageLines s (t .ks)) (sym (t .counts)))

@@ -18,7 +18,7 @@ use Rattle.sparse_rules.specs.declared.Chunk.{Chunk}
 use Rattle.sparse_rules.specs.Header.{headerOf}
 use Rattle.sparse_rules.specs.Walk.{Finding, walk, origin}
 use Rattle.rules.specs.Answer.{refused, accepted}
-use Rattle.sparse_rules.specs.Cells.{written, skipped}
+use Rattle.sparse_rules.specs.Counts.{countsOf}
 use Rattle.sparse_rules.specs.Judge.{judged}
 use Rattle.sparse_rules.proofs.Walk.{stepped, ended}
 use Rattle.sparse_rules.proofs.Facts.{chunk-facts, accepted-facts}
@@ -53,7 +53,7 @@ finding-most s p (refused n place) e = omega (arith, refused-most n place)
 finding-most s p (accepted ks) e =
     let a = accepted-facts s (length s) partition ks e in
     let c = chunks-most s (headerOf s) (a .header .head-least) (headerOf s .chunks) (origin (headerOf s)) ks 0 (chunks-walked s partition ks e) (a .header .start-inside) in
-    simp length-append (omega (arith, p, c, header-most (headerOf s), last-most (written ks) (skipped ks), a .header .start-least))
+    simp length-append (omega (arith, p, c, header-most (headerOf s), last-most (countsOf ks), a .header .start-least))
 
 -- no text is longer
 listing-most : (s : List ℕ) → length (listing s) ≤ most

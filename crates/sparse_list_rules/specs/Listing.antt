@@ -7,10 +7,11 @@ use Prim.Native.Nat.{ℕ, _+_, _≤_}
 use lib.Dec.{leb, ltb}
 use lib.ListN.{length, take, drop}
 use Rattle.sparse_rules.specs.declared.Chunk.{Chunk}
+use Rattle.sparse_rules.specs.declared.Counts.{Counts}
 use Rattle.sparse_rules.specs.Header.{headerOf}
 use Rattle.sparse_rules.specs.Walk.{Finding}
 use Rattle.rules.specs.Answer.{refused, accepted}
-use Rattle.sparse_rules.specs.Cells.{written, skipped}
+use Rattle.sparse_rules.specs.Counts.{countsOf}
 use Rattle.sparse_rules.specs.Judge.{judged}
 use Rattle.sparse_list_rules.specs.declared.Listed.{Listed}
 use Rattle.sparse_list_rules.specs.declared.Listed.the-variants.{Whole, TooShort}
@@ -29,14 +30,14 @@ unfoldable pub chunkLines : ℕ → List Chunk → List ℕ
 chunkLines first [] = []
 chunkLines first (k ∷ ks) = chunkLine first k ++ chunkLines (first + k .blocks) ks
 
--- the lines of an accepted image: its header, its chunks from block 0 on, and so many blocks written and skipped
-abbrev pub imageLines : List ℕ → List Chunk → ℕ → ℕ → List ℕ
-imageLines s ks w k = headerLine (headerOf s) ++ (chunkLines 0 ks ++ lastLine w k)
+-- the lines of an accepted image: its header, its chunks from block 0 on, and its counts of blocks
+abbrev pub imageLines : List ℕ → List Chunk → Counts → List ℕ
+imageLines s ks c = headerLine (headerOf s) ++ (chunkLines 0 ks ++ lastLine c)
 
 -- "a refusal `refused N at P` alone"; an accepted image its lines
 unfoldable pub listingOf : List ℕ → Finding → List ℕ
 listingOf s (refused n place) = refusedLine n place
-listingOf s (accepted ks) = imageLines s ks (written ks) (skipped ks)
+listingOf s (accepted ks) = imageLines s ks (countsOf ks)
 
 -- "Longer input prints `too long` alone"; any other is judged
 unfoldable pub listing : List ℕ → List ℕ

@@ -1,11 +1,11 @@
--- Laws of cells: how many there are, how many are stored, and which bytes they hold; and laws of the counts of blocks.
+-- Laws of cells: how many there are, how many are stored, and which bytes they hold.
 -- Assumes nothing.
 use mathlib.Core.Path.{_≡_, refl, sym, ap, ap₂, _∙_}
-use mathlib.Core.Bool.{Bool, true, false, not, cond}
+use mathlib.Core.Bool.{Bool, true, false, cond}
 use mathlib.Core.Option.{Option, none, some, Option·getD}
 use mathlib.Core.List.{List, [], _∷_, _++_, map, flatten, append-assoc}
 use Prim.Native.Nat.{ℕ, zero, suc, _+_, _*_, _/_, _%_, _≤_, _<_}
-use native.Mathlib.Nat.{not-suc-le-zero, le-of-suc-le-suc, add-zero, zero-add, suc-add, add-assoc, zero-mul, add-mul}
+use native.Mathlib.Nat.{not-suc-le-zero, le-of-suc-le-suc, add-zero, zero-add, suc-add, zero-mul, add-mul}
 use native.Mathlib.Omega.{arith}
 use lib.ListN.{length, getD, take, drop, replicate, length-append, length-map, length-replicate, length-drop}
 use lib.Seq.{ext-getD, getD-take, getD-drop, length-take-le}
@@ -14,7 +14,9 @@ use Rattle.crc32_rules.specs.Power.{repeated}
 use Rattle.sparse_rules.specs.declared.Kind.{Kind}
 use Rattle.sparse_rules.specs.declared.Kind.the-variants.{Raw, Fill, DontCare, Unknown}
 use Rattle.sparse_rules.specs.declared.Chunk.{Chunk}
-use Rattle.sparse_rules.specs.Cells.{tab, rawByte, fillByte, count, cellsBy, cellsOf, cells, zeroed, writes, blocksWhere, written, skipped}
+use Rattle.sparse_rules.specs.Cells.{tab, rawByte, fillByte, count, cellsBy, cellsOf, cells, zeroed}
+use Rattle.sparse_rules.specs.Counts.{writes, written}
+use Rattle.sparse_rules.proofs.Counting.{where-nil, where-cons, blocksIn}
 
 -- ---- tables
 
@@ -45,71 +47,6 @@ tab-append f i (suc m) n =
     let e : suc m + n ≡ suc (m + n) = omega arith in
     let g : suc i + m ≡ i + suc m = omega arith in
     rw e (ap (λ (r : List ℕ). f i ∷ r) (tab-append f (suc i) m n ∙ rw g))
-
--- ---- counts of blocks
-
--- blocks of chunks that are joined
-pub blocksWhere-append : (f : Kind → Bool) (ks ls : List Chunk) → blocksWhere f (ks ++ ls) ≡ blocksWhere f ks + blocksWhere f ls
-blocksWhere-append f [] ls = sym (zero-add _)
-blocksWhere-append f (k ∷ ks) ls = rw (blocksWhere-append f ks ls) (sym (add-assoc (cond (f (k .kind)) (k .blocks) 0) (blocksWhere f ks) (blocksWhere f ls)))
-
--- a block is of some kinds, or of the others
-pub blocksWhere-all : (f : Kind → Bool) (k : Chunk) (ks : List Chunk)
-    → blocksWhere f (k ∷ ks) + blocksWhere (λ j. not (f j)) (k ∷ ks) ≡ k .blocks + (blocksWhere f ks + blocksWhere (λ j. not (f j)) ks)
-blocksWhere-all f k ks = go (f (k .kind))
-  where
-    go : (x : Bool)
-        → cond x (k .blocks) 0 + blocksWhere f ks + (cond (not x) (k .blocks) 0 + blocksWhere (λ j. not (f j)) ks)
-        ≡ k .blocks + (blocksWhere f ks + blocksWhere (λ j. not (f j)) ks)
-    go true = omega arith
-    go false = omega arith
-
--- the blocks of the first chunk are written, or they are skipped
-pub blocks-cons : (k : Chunk) (ks : List Chunk) → written (k ∷ ks) + skipped (k ∷ ks) ≡ k .blocks + (written ks + skipped ks)
-unfolding written skipped
-blocks-cons k ks = blocksWhere-all writes k ks
-
--- at most all blocks of a chunk are written
-pub stored-most : (k : Chunk) → cond (writes (k .kind)) (k .blocks) 0 ≤ k .blocks
-stored-most k = go (writes (k .kind))
-  where
-    go : (x : Bool) → cond x (k .blocks) 0 ≤ k .blocks
-    go true = omega arith
-    go false = omega arith
-
--- written blocks, one chunk more
-pub written-cons : (k : Chunk) (ks : List Chunk) → written (k ∷ ks) ≡ cond (writes (k .kind)) (k .blocks) 0 + written ks
-unfolding written
-written-cons k ks = refl
-
--- skipped blocks, one chunk more
-pub skipped-cons : (k : Chunk) (ks : List Chunk) → skipped (k ∷ ks) ≡ cond (writes (k .kind)) 0 (k .blocks) + skipped ks
-unfolding skipped
-skipped-cons k ks = go (writes (k .kind))
-  where
-    go : (x : Bool) → cond (not x) (k .blocks) 0 + blocksWhere (λ j. not (writes j)) ks ≡ cond x 0 (k .blocks) + blocksWhere (λ j. not (writes j)) ks
-    go true = refl
-    go false = refl
-
--- no chunks write no blocks
-pub written-nil : written [] ≡ 0
-unfolding written
-written-nil = refl
-
--- and skip none
-pub skipped-nil : skipped [] ≡ 0
-unfolding skipped
-skipped-nil = refl
-
--- written blocks of chunks that are joined
-pub written-append : (ks ls : List Chunk) → written (ks ++ ls) ≡ written ks + written ls
-unfolding written
-written-append ks ls = blocksWhere-append writes ks ls
-
--- skipped blocks of chunks that are joined
-pub skipped-append : (ks ls : List Chunk) → skipped (ks ++ ls) ≡ skipped ks + skipped ls
-unfolding skipped
-skipped-append ks ls = blocksWhere-append (λ j. not (writes j)) ks ls
 
 -- ---- cells of chunks
 
@@ -145,11 +82,11 @@ unfolding cellsOf
 length-cellsOf s b k = length-cellsBy s (k .kind) (k .body) (k .blocks * b)
 
 -- the cells of chunks fill all of their blocks
-pub length-cells : (s : List ℕ) (b : ℕ) (ks : List Chunk) → length (cells s b ks) ≡ (written ks + skipped ks) * b
+pub length-cells : (s : List ℕ) (b : ℕ) (ks : List Chunk) → length (cells s b ks) ≡ blocksIn ks * b
 unfolding cells
-length-cells s b [] = rw (written-nil, skipped-nil) (sym (zero-mul b))
+length-cells s b [] = sym (zero-mul b)
 length-cells s b (k ∷ ks) =
-    rw (blocks-cons k ks, length-append, length-cellsOf s b k, length-cells s b ks) (sym (add-mul (k .blocks) (written ks + skipped ks) b))
+    rw (length-append, length-cellsOf s b k, length-cells s b ks) (sym (add-mul (k .blocks) (blocksIn ks) b))
 
 -- ---- how many are stored
 
@@ -189,9 +126,9 @@ count-cellsOf s b k = count-cellsBy s (k .kind) (k .body) (k .blocks * b) ∙ go
 -- the stored cells of chunks are those of the written blocks
 pub count-cells : (s : List ℕ) (b : ℕ) (ks : List Chunk) → count (cells s b ks) ≡ written ks * b
 unfolding cells
-count-cells s b [] = rw written-nil (sym (zero-mul b))
+count-cells s b [] = rw (where-nil writes) (sym (zero-mul b))
 count-cells s b (k ∷ ks) =
-    rw (written-cons k ks, count-append, count-cellsOf s b k, count-cells s b ks) (sym (add-mul (cond (writes (k .kind)) (k .blocks) 0) (written ks) b))
+    rw (where-cons writes k ks, count-append, count-cellsOf s b k, count-cells s b ks) (sym (add-mul (cond (writes (k .kind)) (k .blocks) 0) (written ks) b))
 
 -- ---- the bytes of cells
 

@@ -17,7 +17,8 @@ use Rattle.sparse_rules.specs.Header.{headerOf, headerTests, headerSizeR
 use Rattle.sparse_rules.specs.Chunks.{typeAt, blocksAt, sizeAt, kindOf, sizeRight, chunkTests, chunk, chunkAt, nextCursor, reading}
 use Rattle.rules.specs.Answer.{refused, accepted, unless}
 use Rattle.sparse_rules.specs.Walk.{Finding}
-use Rattle.sparse_rules.specs.Cells.{writes, checksumOf}
+use Rattle.sparse_rules.specs.Cells.{checksumOf}
+use Rattle.sparse_rules.specs.Counts.{writes}
 use Rattle.sparse_rules.specs.Judge.{sumStated, sumDiffers, sumTests, summed, structure, judged}
 use Rattle.sparse_rules.specs.Facts.{HeaderFacts, dataBytes, ChunkFacts, AcceptedFacts}
 use Rattle.rules.proofs.Tests.{all-fail, both, and-rest}

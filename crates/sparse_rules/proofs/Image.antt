@@ -1,6 +1,6 @@
 -- What an answer says of an image, and what an accepted image gives: the laws that those who store, list or write images go by.
 -- Assumes nothing.
-use mathlib.Core.Path.{_≡_, refl, sym, ap}
+use mathlib.Core.Path.{_≡_, refl, ap}
 use mathlib.Core.Option.{some}
 use mathlib.Core.List.{List, [], map}
 use Prim.Native.Nat.{ℕ, _*_}
@@ -9,12 +9,14 @@ use lib.ListN.{length}
 use Rattle.sparse_rules.specs.declared.Header.{Header}
 use Rattle.sparse_rules.specs.declared.Kind.the-variants.{Raw, Fill}
 use Rattle.sparse_rules.specs.declared.Chunk.{Chunk}
+use Rattle.sparse_rules.specs.declared.Counts.{Counts}
 use Rattle.sparse_rules.specs.Header.{headerOf, blockSize, totalChunks}
 use Rattle.sparse_rules.specs.Walk.{Finding, walk, origin}
 use Rattle.rules.specs.Answer.{refused, accepted}
-use Rattle.sparse_rules.specs.Cells.{tab, rawByte, fillByte, cellsBy, cellsOf, cells, written, skipped}
+use Rattle.sparse_rules.specs.Cells.{tab, rawByte, fillByte, cellsBy, cellsOf, cells}
 use Rattle.sparse_rules.specs.Judge.{structure, judged, effectOf, effect}
-use Rattle.sparse_rules.specs.Answers.{Counts, counts, answerFor, answer}
+use Rattle.sparse_rules.specs.Counts.{countsOf}
+use Rattle.sparse_rules.specs.Answers.{answerFor, answer}
 use Rattle.rules.proofs.Answer.{accepted-same}
 use Rattle.sparse_rules.proofs.Facts.{accepted-facts}
 
@@ -43,18 +45,15 @@ module _ (s : List ℕ) (room : ℕ) where
   chunks-walked ks e = accepted-facts s (length s) room ks e .chunks
 
 -- a finding that is answered with counts has chunks of so many blocks
-pub record Counted (f : Finding) (w k : ℕ) : Type 0 where
+pub record Counted (f : Finding) (c : Counts) : Type 0 where
   pub ks : List Chunk
   pub found : f ≡ accepted ks
-  pub writes : written ks ≡ w
-  pub skips : skipped ks ≡ k
+  pub counts : c ≡ countsOf ks
 
-counted : (f : Finding) (w k : ℕ) → counts w k ≡ answerFor f → Counted f w k
+counted : (f : Finding) (c : Counts) → accepted c ≡ answerFor f → Counted f c
 unfolding answerFor
-counted (accepted ks) w k e =
-    let same = accepted-same e in
-    record { ks = ks; found = refl; writes = sym (ap (λ (n : Counts). n .written) same); skips = sym (ap (λ (n : Counts). n .skipped) same) }
-counted (refused n place) w k e = let z : _≡_ {A = ℕ} 0 1 = cc in absurd (omega arith)
+counted (accepted ks) c e = record { ks = ks; found = refl; counts = accepted-same e }
+counted (refused n place) c e = let z : _≡_ {A = ℕ} 0 1 = cc in absurd (omega arith)
 
 turned-down : (f : Finding) (n place : ℕ) → refused n place ≡ answerFor f → f ≡ refused n place
 unfolding answerFor
@@ -62,10 +61,10 @@ turned-down (accepted ks) n place e = let z : _≡_ {A = ℕ} 0 1 = cc in absurd
 turned-down (refused m at) n place e = cc
 
 module _ (s : List ℕ) (len room : ℕ) where
-  -- an image that is answered with counts is accepted, with so many blocks written and skipped
-  pub answer-accepted : (w k : ℕ) → counts w k ≡ answer s len room → Counted (judged s len room) w k
+  -- an image that is answered with counts is accepted, with chunks of so many blocks
+  pub answer-accepted : (c : Counts) → accepted c ≡ answer s len room → Counted (judged s len room) c
   unfolding answer
-  answer-accepted w k e = counted (judged s len room) w k e
+  answer-accepted c e = counted (judged s len room) c e
 
   -- one that is answered with a refusal is refused
   pub answer-refused : (n place : ℕ) → refused n place ≡ answer s len room → judged s len room ≡ refused n place
@@ -73,7 +72,7 @@ module _ (s : List ℕ) (len room : ℕ) where
   answer-refused n place e = turned-down (judged s len room) n place e
 
   -- an accepted image is answered with its counts
-  pub answer-counts : (ks : List Chunk) → judged s len room ≡ accepted ks → answer s len room ≡ counts (written ks) (skipped ks)
+  pub answer-counts : (ks : List Chunk) → judged s len room ≡ accepted ks → answer s len room ≡ accepted (countsOf ks)
   unfolding answer answerFor
   answer-counts ks e = ap answerFor e
 

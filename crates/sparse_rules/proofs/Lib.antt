@@ -1,6 +1,7 @@
 pub mod Walk
 pub mod Facts
 pub mod Refusals
+pub mod Counting
 pub mod Cells
 pub mod Longer
 pub mod SumLaws

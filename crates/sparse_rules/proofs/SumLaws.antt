@@ -16,7 +16,8 @@ use Rattle.sparse_rules.specs.declared.Header.{Header}
 use Rattle.sparse_rules.specs.declared.Cursor.{Cursor}
 use Rattle.sparse_rules.specs.declared.Kind.the-variants.{Raw, Fill}
 use Rattle.sparse_rules.specs.declared.Chunk.{Chunk}
-use Rattle.sparse_rules.specs.Cells.{cellsOf, cells, zeroed, checksumOf, writes}
+use Rattle.sparse_rules.specs.Cells.{cellsOf, cells, zeroed, checksumOf}
+use Rattle.sparse_rules.specs.Counts.{writes}
 use Rattle.sparse_rules.specs.Facts.{HeaderFacts, ChunkFacts, Summable}
 use Rattle.sparse_rules.proofs.Cells.{cells-nil, cells-cons, zeroed-append, zeroed-raw, zeroed-fill, zeroed-kept}
 

@@ -1,52 +1,59 @@
--- What an accepted image adds up to, that a longer partition changes nothing of it, what the checksum decides, and refusal numbers.
+-- What an accepted image adds up to, that a longer partition changes nothing of it, what the checksum decides, what a chunk says of
+-- its type, and refusal numbers.
 -- Assumes nothing.
 use mathlib.Core.Path.{_≡_, refl, sym, ap, _∙_}
+use mathlib.Core.Bool.{Bool, true, false, _||_, cond}
 use mathlib.Core.List.{List, [], _∷_}
 use Prim.Native.Nat.{ℕ, zero, suc, _+_, _*_, _≤_, zero-le}
 use native.Mathlib.Nat.{le-trans, zero-add, zero-lt-suc}
 use native.Mathlib.Numerals.{sub-one}
 use native.Mathlib.Omega.{arith}
+use lib.Dec.{eqb}
 use lib.ListN.{length}
 use borrow.Author.Tests.{ltb-false, le-ltb}
 use Rattle.rules.specs.First.{first}
 use Rattle.sparse_rules.specs.declared.Header.{Header}
 use Rattle.sparse_rules.specs.declared.Cursor.{Cursor}
+use Rattle.sparse_rules.specs.declared.Kind.the-variants.{Raw, Fill, DontCare, Unknown}
 use Rattle.sparse_rules.specs.declared.Chunk.{Chunk}
 use Rattle.sparse_rules.specs.Header.{headerOf, headerTests, blockSize, totalBlocks, totalChunks, statedChecksum}
 use Rattle.rules.specs.Answer.{accepted, unless, numberOf, HasNumber}
 use Rattle.rules.proofs.Answer.{unless-number, onward-number, unless-most, onward-most}
 use Rattle.sparse_rules.specs.Walk.{more, endTests, walk, origin}
-use Rattle.sparse_rules.specs.Chunks.{chunkTests, chunk, chunkAt, nextCursor, reading}
-use Rattle.sparse_rules.specs.Cells.{written, skipped}
+use Rattle.sparse_rules.specs.Chunks.{typeAt, kindOf, isKnown, chunkTests, chunk, chunkAt, nextCursor, reading}
+use Rattle.sparse_rules.specs.Counts.{countsOf}
 use Rattle.sparse_rules.specs.Judge.{sumTests, summed, structure, judged, effect, effectOf}
-use Rattle.sparse_rules.specs.Answers.{counts, answer, answerFor}
-use Rattle.sparse_rules.specs.Theorems.{Sums, Unmoved, Checksums, NoneStated, RefusalNumbers}
+use Rattle.sparse_rules.specs.Answers.{answer, answerFor}
+use Rattle.sparse_rules.specs.Theorems.{Sums, Unmoved, Checksums, NoneStated, TypesTold, RefusalNumbers}
 use Rattle.rules.proofs.Tests.{all-fail, first-most}
 use Rattle.sparse_rules.proofs.Walk.{stepped, ended}
 use Rattle.sparse_rules.proofs.Facts.{chunk-facts, sum-none, sum-refused, sum-passed, header-passed, judged-sum, judged-accepted, accepted-facts}
-use Rattle.sparse_rules.proofs.Cells.{written-nil, skipped-nil, blocks-cons, length-cells, count-cells}
+use Rattle.sparse_rules.proofs.Counting.{blocksIn, three-parts}
+use Rattle.sparse_rules.proofs.Cells.{length-cells, count-cells}
+use Rattle.sparse_rules.proofs.Image.{answer-counts}
 
 -- the chunks of an accepted walk span the blocks from the cursor's to the total
 pub walk-total : (s : List ℕ) (len : ℕ) (h : Header) (n : ℕ) (c : Cursor) (ks : List Chunk) → c .first ≤ h .total → walk s len h n c ≡ accepted ks
-    → c .first + (written ks + skipped ks) ≡ h .total
+    → c .first + blocksIn ks ≡ h .total
 walk-total s len h zero c ks p e =
     let d = ended s len h zero c ks e refl in
-    rw (d .none, written-nil, skipped-nil) (omega (arith, d .filled))
+    rw (d .none) (omega (arith, d .filled))
 walk-total s len h (suc n) c ks p e =
     let d = stepped s len h (suc n) c ks e (zero-lt-suc n) in
     let f = chunk-facts s len h c (d .here) (d .next) (d .read) in
     let r = walk-total s len h n (d .next) (d .rest) (f .within) (rw sub-one at (d .walked)) in
-    rw (d .found, blocks-cons (d .here) (d .rest)) (omega (arith, r, f .blocks))
+    rw (d .found) (omega (arith, r, f .blocks))
 
 -- an accepted image adds up to its header's total, and has room
 pub sums : Sums
 unfolding structure
 sums s len room ks e =
     let a = accepted-facts s len room ks e in
-    let t : written ks + skipped ks ≡ totalBlocks s =
+    let t : blocksIn ks ≡ totalBlocks s =
     sym (zero-add _) ∙ walk-total s len (headerOf s) (totalChunks s) (origin (headerOf s)) ks zero-le (a .chunks) in
     record {
-      total = t;
+      counts = answer-counts s len room ks e;
+      total = three-parts ks ∙ t;
       bytes = length-cells s (blockSize s) ks ∙ ap (λ (n : ℕ). n * blockSize s) t;
       fits = a .header .fits;
       stored = count-cells s (blockSize s) ks;
@@ -115,6 +122,22 @@ stated-most s len room z =
 pub none-stated : NoneStated
 none-stated s len room place z e = let m : 11 ≤ 10 = rw e at (stated-most s len room z) in omega arith
 
+-- ---- the types of chunks
+
+-- a chunk's kind says whether its type is known
+pub types-told : TypesTold
+unfolding chunkAt kindOf
+types-told s len h c k next e = rw (chunk-facts s len h c k next e .is) (go (typeAt s (c .at)))
+  where
+    go : (t : ℕ) → isKnown (kindOf t) ≡ (eqb t 0xCAC1 || eqb t 0xCAC2 || eqb t 0xCAC3)
+    go t = each (eqb t 0xCAC1) (eqb t 0xCAC2) (eqb t 0xCAC3)
+      where
+        each : (x y z : Bool) → isKnown (cond x Raw (cond y Fill (cond z DontCare Unknown))) ≡ (x || y || z)
+        each true y z = refl
+        each false true z = refl
+        each false false true = refl
+        each false false false = refl
+
 -- ---- refusal numbers
 
 reading-number : (s : List ℕ) (len : ℕ) (h : Header) (c : Cursor) → HasNumber (reading s len h c)
@@ -143,5 +166,5 @@ refusal-numbers =
     record {
       chunks = reading-number;
       images = judged-number;
-      answers = λ s len room. onward-number (judged s len room) (λ ks. counts (written ks) (skipped ks)) (judged-number s len room) (λ ks. tt);
+      answers = λ s len room. onward-number (judged s len room) (λ ks. accepted (countsOf ks)) (judged-number s len room) (λ ks. tt);
     }

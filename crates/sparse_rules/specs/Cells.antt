@@ -1,6 +1,5 @@
--- What an accepted image gives each byte of a partition, its checksum, and its counts of blocks.
+-- What an accepted image gives each byte of a partition, and its checksum.
 -- Assumes nothing.
-use mathlib.Core.Bool.{Bool, true, false, not, cond}
 use mathlib.Core.Option.{Option, none, some, Option·getD}
 use mathlib.Core.List.{List, [], _∷_, _++_, map}
 use Prim.Native.Nat.{ℕ, zero, suc, _+_, _*_, _%_}
@@ -52,23 +51,3 @@ zeroed cs = map (λ c. Option·getD c 0) cs
 -- the checksum of chunks: "It depends on the image alone, never on the partition"
 unfoldable pub checksumOf : List ℕ → ℕ → List Chunk → ℕ
 checksumOf s b ks = crc32 (zeroed (cells s b ks))
-
--- the blocks of a raw or fill chunk are written, all other are skipped
-abbrev pub writes : Kind → Bool
-writes Raw = true
-writes Fill = true
-writes DontCare = false
-writes Unknown = false
-
--- the blocks of the chunks of some kinds
-abbrev pub blocksWhere : (Kind → Bool) → List Chunk → ℕ
-blocksWhere f [] = 0
-blocksWhere f (k ∷ ks) = cond (f (k .kind)) (k .blocks) 0 + blocksWhere f ks
-
--- "blocks written (raw and fill)"
-unfoldable pub written : List Chunk → ℕ
-written ks = blocksWhere writes ks
-
--- "and blocks skipped (all other)"
-unfoldable pub skipped : List Chunk → ℕ
-skipped ks = blocksWhere (λ k. not (writes k)) ks

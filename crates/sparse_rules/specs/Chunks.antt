@@ -1,6 +1,6 @@
 -- The chunks of a sparse image: how one is read.
 -- Assumes nothing.
-use mathlib.Core.Bool.{Bool, not, _&&_, cond}
+use mathlib.Core.Bool.{Bool, true, false, not, _&&_, cond}
 use mathlib.Core.List.{List, [], _∷_}
 use Prim.Native.Nat.{ℕ, _+_, _*_, _%_}
 use lib.Dec.{leb, ltb, eqb}
@@ -28,6 +28,13 @@ sizeAt s at = numberAt s (at + 8) 4
 -- 0xCAC1 raw, 0xCAC2 fill, 0xCAC3 don't care, any other type unknown
 unfoldable pub kindOf : ℕ → Kind
 kindOf t = cond (eqb t 0xCAC1) Raw (cond (eqb t 0xCAC2) Fill (cond (eqb t 0xCAC3) DontCare Unknown))
+
+-- 02, request 3: "Each chunk as read shall say whether its type is known": it is, unless the chunk's kind is `Unknown`
+abbrev pub isKnown : Kind → Bool
+isKnown Raw = true
+isKnown Fill = true
+isKnown DontCare = true
+isKnown Unknown = false
 
 -- the total size that each kind of chunk must have
 unfoldable pub sizeRight : Header → Kind → ℕ → ℕ → Bool

@@ -2,6 +2,7 @@ pub mod Header
 pub mod Chunks
 pub mod Walk
 pub mod Cells
+pub mod Counts
 pub mod Judge
 pub mod Answers
 pub mod Facts

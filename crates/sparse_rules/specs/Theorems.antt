@@ -1,9 +1,11 @@
--- Theorems about images: what an accepted one adds up to, that more room changes nothing, what the checksum decides, and that
--- every refusal has a number.
+-- Theorems about images: what an accepted one adds up to, that more room changes nothing, what the checksum decides, that a
+-- chunk says whether its type is known, and that every refusal has a number.
 -- Assumes nothing.
 use mathlib.Core.Path.{_≡_}
+use mathlib.Core.Bool.{_||_}
 use mathlib.Core.List.{List}
 use Prim.Native.Nat.{ℕ, _+_, _*_, _≤_}
+use lib.Dec.{eqb}
 use lib.ListN.{length}
 use Rattle.rules.specs.First.{first}
 use Rattle.rules.specs.Answer.{accepted, refused, HasNumber}
@@ -11,15 +13,22 @@ use Rattle.sparse_rules.specs.declared.Header.{Header}
 use Rattle.sparse_rules.specs.declared.Cursor.{Cursor}
 use Rattle.sparse_rules.specs.declared.Chunk.{Chunk}
 use Rattle.sparse_rules.specs.Header.{blockSize, totalBlocks, statedChecksum, headerTests}
-use Rattle.sparse_rules.specs.Chunks.{reading}
-use Rattle.sparse_rules.specs.Cells.{count, cells, checksumOf, written, skipped}
+use Rattle.sparse_rules.specs.Chunks.{typeAt, isKnown, chunk, reading}
+use Rattle.sparse_rules.specs.Cells.{count, cells, checksumOf}
+use Rattle.sparse_rules.specs.Counts.{writes, isDontCare, isUnknown, blocksWhere, written, dontCare, unknown}
 use Rattle.sparse_rules.specs.Judge.{structure, judged, effect}
 use Rattle.sparse_rules.specs.Answers.{answer}
 
 -- what the chunks of an accepted image add up to, for a partition with so much room
-pub record Sum (s : List ℕ) (room : ℕ) (ks : List Chunk) : Type 0 where
-  -- blocks written and blocks skipped: "their sum is the header's total"
-  pub total : written ks + skipped ks ≡ totalBlocks s
+pub record Sum (s : List ℕ) (len room : ℕ) (ks : List Chunk) : Type 0 where
+  -- the answer has three counts, each of what the chunks of its kinds hold: raw and fill, don't care, of a type that is not known
+  pub counts : answer s len room ≡ accepted (record {
+    written = blocksWhere writes ks;
+    «dont_care» = blocksWhere isDontCare ks;
+    unknown = blocksWhere isUnknown ks;
+  })
+  -- "three counts whose sum is the total: written, don't care, unknown"
+  pub total : written ks + dontCare ks + unknown ks ≡ totalBlocks s
   -- there is a cell for each byte of them
   pub bytes : length (cells s (blockSize s) ks) ≡ totalBlocks s * blockSize s
   -- and the partition has room for all
@@ -29,7 +38,7 @@ pub record Sum (s : List ℕ) (room : ℕ) (ks : List Chunk) : Type 0 where
 
 -- every accepted image adds up
 abbrev pub Sums : Type 0
-Sums = (s : List ℕ) (len room : ℕ) (ks : List Chunk) → judged s len room ≡ accepted ks → Sum s room ks
+Sums = (s : List ℕ) (len room : ℕ) (ks : List Chunk) → judged s len room ≡ accepted ks → Sum s len room ks
 
 -- an image is the same for a partition with some room and for one with more
 pub record Same (s : List ℕ) (room more : ℕ) : Type 0 where
@@ -61,6 +70,11 @@ Checksums = (s : List ℕ) (len room : ℕ) (ks : List Chunk) → first (headerT
 -- whatever else is wrong with an image that states 0, refusal 11 cannot come
 abbrev pub NoneStated : Type 0
 NoneStated = (s : List ℕ) (len room place : ℕ) → statedChecksum s ≡ 0 → judged s len room ≡ refused 11 place → ⊥
+
+-- "Each chunk as read shall say whether its type is known": it is one of three
+abbrev pub TypesTold : Type 0
+TypesTold = (s : List ℕ) (len : ℕ) (h : Header) (c : Cursor) (k : Chunk) (next : Cursor) → reading s len h c ≡ chunk k next
+    → isKnown (k .kind) ≡ (eqb (typeAt s (c .at)) 0xCAC1 || eqb (typeAt s (c .at)) 0xCAC2 || eqb (typeAt s (c .at)) 0xCAC3)
 
 -- no refusal has the number 0
 pub record RefusalNumbers : Type 0 where

@@ -18,7 +18,7 @@ pub struct Cursor {
     pub first: u32,
 }
 
-// What a chunk's type says of it.
+// What a chunk's type says of it: one of the three that are known, or that it is not known.
 pub enum Kind {
     Raw,
     Fill,
@@ -45,8 +45,16 @@ pub enum ChunkRead {
     Refused(Refusal),
 }
 
-// What the judge answers: accepted with blocks written and blocks skipped, or refused.
+// The blocks that an accepted image counts: those of raw and fill chunks, of don't care chunks, and of chunks whose type is
+// not known.
+pub struct Counts {
+    pub written: u32,
+    pub dont_care: u32,
+    pub unknown: u32,
+}
+
+// What the judge answers: accepted with its counts of blocks, or refused.
 pub enum Verdict {
-    Accepted(u32, u32),
+    Accepted(Counts),
     Refused(Refusal),
 }

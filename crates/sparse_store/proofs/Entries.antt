@@ -11,8 +11,10 @@ use lib.ListN.{length}
 use borrow.Author.Tests.{leb-true, leb-false}
 use Rattle.rules.specs.Answer.{accepted, refused}
 use Rattle.sparse_rules.specs.Judge.{judged}
-use Rattle.sparse_rules.specs.Answers.{counts, answer}
+use Rattle.sparse_rules.specs.Counts.{written}
+use Rattle.sparse_rules.specs.Answers.{answer}
 use Rattle.sparse_rules.specs.declared.Refusal.{Refusal}
+use Rattle.sparse_rules.specs.declared.Counts.{Counts}
 use Rattle.sparse_store_rules.specs.declared.Stored.{Stored}
 use Rattle.sparse_store_rules.specs.declared.Stored.the-variants.{Blocks, Refused}
 use Rattle.sparse_store_rules.specs.Store.{store, storeUpTo}
@@ -30,33 +32,36 @@ pub stored-is-no-refusal : {r : Stored} {n : ℕ} {f : Refusal} → r ≡ Blocks
 stored-is-no-refusal e q = let z : _≡_ {A = ℕ} 0 1 = cc in omega arith
 
 module _ (s p : List ℕ) where
-  module _ (w k : ℕ) (e : counts w k ≡ answer s (length s) (length p)) where
-    found : Counted (judged s (length s) (length p)) w k
-    found = answer-accepted s (length s) (length p) w k e
+  module _ (c : Counts) (e : accepted c ≡ answer s (length s) (length p)) where
+    found : Counted (judged s (length s) (length p)) c
+    found = answer-accepted s (length s) (length p) c e
+
+    wrote : written (found .ks) ≡ c .written
+    wrote = sym (ap (λ (x : Counts). x .written) (found .counts))
 
     -- an accepted image has its blocks to store
-    pub storable : (count : ℕ) → count ≤ w → Storable s (length p) count
-    storable count h = record { ks = found .ks; found = found .found; enough = rw (found .writes) h }
+    pub storable : (count : ℕ) → count ≤ c .written → Storable s (length p) count
+    storable count h = record { ks = found .ks; found = found .found; enough = rw wrote h }
 
     -- all of them are the plain store
-    pub stored-whole : storeUpTo w s p ≡ store s p
-    stored-whole = limit-whole s p (found .ks) (found .found) w (omega (arith, found .writes))
+    pub stored-whole : storeUpTo (c .written) s p ≡ store s p
+    stored-whole = limit-whole s p (found .ks) (found .found) (c .written) (omega (arith, wrote))
 
     -- the lesser of the limit and all of them is what the limit leaves
-    pub stored-least : (limit : ℕ) → storeUpTo (min limit w) s p ≡ storeUpTo limit s p
-    stored-least limit = go (leb limit w) refl
+    pub stored-least : (limit : ℕ) → storeUpTo (min limit (c .written)) s p ≡ storeUpTo limit s p
+    stored-least limit = go (leb limit (c .written)) refl
       where
-        go : (x : Bool) → leb limit w ≡ x → storeUpTo (min limit w) s p ≡ storeUpTo limit s p
-        go true q = let h : limit ≤ w = leb-true limit w q in ap (λ (n : ℕ). storeUpTo n s p) (min-eq-left h)
+        go : (x : Bool) → leb limit (c .written) ≡ x → storeUpTo (min limit (c .written)) s p ≡ storeUpTo limit s p
+        go true q = let h : limit ≤ c .written = leb-true limit (c .written) q in ap (λ (n : ℕ). storeUpTo n s p) (min-eq-left h)
         go false q =
-            let h : w ≤ limit = le-of-lt (leb-false limit w q) in
+            let h : c .written ≤ limit = le-of-lt (leb-false limit (c .written) q) in
             ap (λ (n : ℕ). storeUpTo n s p) (min-eq-right h) ∙ stored-whole
-            ∙ sym (limit-whole s p (found .ks) (found .found) limit (rw (found .writes) h))
+            ∙ sym (limit-whole s p (found .ks) (found .found) limit (rw wrote h))
 
     -- and is answered
-    pub answered-least : (limit : ℕ) → accepted (min limit w) ≡ cutAnswer limit s (length p)
+    pub answered-least : (limit : ℕ) → accepted (min limit (c .written)) ≡ cutAnswer limit s (length p)
     answered-least limit =
-        ap (λ (n : ℕ). accepted (min limit n)) (sym (found .writes)) ∙ sym (cut-accepted limit s (length p) (found .ks) (found .found))
+        ap (λ (n : ℕ). accepted (min limit n)) (sym wrote) ∙ sym (cut-accepted limit s (length p) (found .ks) (found .found))
 
   module _ (n place : ℕ) (e : refused n place ≡ answer s (length s) (length p)) where
     refusal : judged s (length s) (length p) ≡ refused n place

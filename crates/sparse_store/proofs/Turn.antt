@@ -16,11 +16,12 @@ use Rattle.sparse_rules.specs.Header.{headerOf, totalChunks}
 use Rattle.rules.specs.Answer.{refused, accepted}
 use Rattle.sparse_rules.specs.Chunks.{chunk, reading}
 use Rattle.sparse_rules.specs.Walk.{walk, origin}
-use Rattle.sparse_rules.specs.Cells.{count, cellsBy, cells, writes, written}
+use Rattle.sparse_rules.specs.Cells.{count, cellsBy, cells}
+use Rattle.sparse_rules.specs.Counts.{writes, written}
 use Rattle.sparse_rules.specs.Facts.{HeaderFacts, ChunkFacts}
 use Rattle.sparse_rules.proofs.Walk.{read-on, never-refused, ended}
 use Rattle.sparse_rules.proofs.Facts.{chunk-facts, accepted-facts}
-use Rattle.sparse_rules.proofs.Cells.{written-nil, written-cons}
+use Rattle.sparse_rules.proofs.Counting.{where-nil, where-cons}
 use Rattle.sparse_rules.proofs.Image.{chunks-walked}
 use Rattle.sparse_store_rules.specs.Store.{torn, laid, storeUpTo}
 use Rattle.sparse_store_rules.proofs.Over.{length-over, laid-kept}
@@ -76,7 +77,7 @@ module _ {s : List ℕ} {h : Header} {p₀ : List ℕ} {limit : ℕ} {p : List �
       go : (n : ℕ) → turn .n ≡ n → 0 < turn .n
       go zero q =
           let d = ended s (length s) h (turn .n) c (turn .ks) (turn .walked) q in
-          let z : written (turn .ks) ≡ 0 = rw (d .none) written-nil in
+          let z : written (turn .ks) ≡ 0 = rw (d .none) (where-nil writes) in
           absurd (omega (arith, turn .enough))
       go (suc n) q = omega arith
 
@@ -130,7 +131,7 @@ module _ {s : List ℕ} {h : Header} {p₀ : List ℕ} {limit : ℕ} {p : List �
         let b : ℕ = h .block in
         let turn = here .turn in
         let d = read-on s (length s) h (turn .n) c (turn .ks) (turn .walked) (more turn (here .some-left)) k next (sym (here .read)) in
-        let counted : written (turn .ks) ≡ cond (writes (k .kind)) (k .blocks) 0 + written (d .rest) = ap written (d .found) ∙ written-cons k (d .rest) in
+        let counted : written (turn .ks) ≡ cond (writes (k .kind)) (k .blocks) 0 + written (d .rest) = ap written (d .found) ∙ where-cons writes k (d .rest) in
         let place : next .first * b ≡ c .first * b + k .blocks * b = rw (facts .blocks) (add-mul (c .first) (k .blocks) b) in
         let whole : laid (c .first * b) (torn (left * b) [] (cells s b (k ∷ d .rest))) p ≡ storeUpTo limit s p₀ =
         ap (λ (l : List Chunk). laid (c .first * b) (torn (left * b) [] (cells s b l)) p) (sym (d .found)) ∙ turn .goes in

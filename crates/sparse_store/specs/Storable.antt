@@ -6,7 +6,7 @@ use Prim.Native.Nat.{ℕ, _≤_}
 use lib.ListN.{length}
 use Rattle.sparse_rules.specs.declared.Chunk.{Chunk}
 use Rattle.rules.specs.Answer.{accepted}
-use Rattle.sparse_rules.specs.Cells.{written}
+use Rattle.sparse_rules.specs.Counts.{written}
 use Rattle.sparse_rules.specs.Judge.{judged}
 
 -- an accepted image, for a partition with so much room, that has so many blocks to store

@@ -49,8 +49,8 @@ pub fn store_limited(image: &[u8], partition: &mut [u8], limit: u64) -> Stored
 {
     let verdict = sparse_judge::judge(image, partition.len() as u64);
     match verdict {
-        Verdict::Accepted(written, _) => {
-            let count = least(limit, written as u64);
+        Verdict::Accepted(counts) => {
+            let count = least(limit, counts.written as u64);
             store_blocks(image, partition, count)
         }
         Verdict::Refused(f) => Stored::Refused(f),
@@ -64,10 +64,10 @@ pub fn store(image: &[u8], partition: &mut [u8]) -> Verdict
     ensures contents { λ _. ⌜ now (partition .exit) ≡ store (now (image .entry)) (now (partition .entry)) ⌝ }
 {
     let found = sparse_judge::judge(image, partition.len() as u64);
-    let Verdict::Accepted(written, _) = found else {
+    let Verdict::Accepted(counts) = found else {
         return found;
     };
-    let stored = store_blocks(image, partition, written as u64);
+    let stored = store_blocks(image, partition, counts.written as u64);
     match stored {
         Stored::Blocks(_) => found,
         Stored::Refused(f) => Verdict::Refused(f),

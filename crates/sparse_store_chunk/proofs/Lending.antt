@@ -13,7 +13,8 @@ use lib.Seq.{length-take-le}
 use borrow.Author.Tests.{leb-true, leb-false}
 use Rattle.sparse_rules.specs.declared.Kind.{Kind}
 use Rattle.sparse_rules.specs.declared.Kind.the-variants.{Raw, Fill}
-use Rattle.sparse_rules.specs.Cells.{tab, rawByte, fillByte, cellsBy, writes}
+use Rattle.sparse_rules.specs.Cells.{tab, rawByte, fillByte, cellsBy}
+use Rattle.sparse_rules.specs.Counts.{writes}
 use Rattle.sparse_rules.proofs.Cells.{length-tab, tab-append, cells-kept}
 use Rattle.sparse_rules.proofs.Image.{raw-cells, fill-cells}
 use Rattle.sparse_store_rules.specs.Store.{laid}

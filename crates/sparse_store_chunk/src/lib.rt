@@ -3,7 +3,8 @@
 ghost use mathlib.Core.Path.{_≡_};
 ghost use mathlib.Core.Bool.{cond};
 ghost use Prim.Native.Nat.{min};
-ghost use Rattle.sparse_rules.specs.Cells.{cellsBy, writes};
+ghost use Rattle.sparse_rules.specs.Cells.{cellsBy};
+ghost use Rattle.sparse_rules.specs.Counts.{writes};
 ghost use Rattle.sparse_store_rules.specs.Store.{laid};
 use sparse_rules::Chunk;
 use sparse_rules::Kind;

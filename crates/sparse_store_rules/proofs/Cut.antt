@@ -16,7 +16,8 @@ use Rattle.sparse_rules.proofs.Theorems.{refusal-numbers}
 use Rattle.sparse_rules.specs.declared.Chunk.{Chunk}
 use Rattle.sparse_rules.specs.Header.{blockSize}
 use Rattle.sparse_rules.specs.Walk.{Finding}
-use Rattle.sparse_rules.specs.Cells.{count, cells, written}
+use Rattle.sparse_rules.specs.Cells.{count, cells}
+use Rattle.sparse_rules.specs.Counts.{written}
 use Rattle.sparse_rules.specs.Judge.{judged, effect}
 use Rattle.sparse_rules.proofs.Cells.{count-cells}
 use Rattle.sparse_store_rules.specs.Store.{over, torn, store, cutStore, storeUpTo}

@@ -11,7 +11,8 @@ use lib.ListN.{length, take, replicate}
 use Rattle.sparse_rules.specs.declared.Kind.{Kind}
 use Rattle.sparse_rules.specs.declared.Kind.the-variants.{Raw, Fill, DontCare, Unknown}
 use Rattle.sparse_rules.specs.declared.Chunk.{Chunk}
-use Rattle.sparse_rules.specs.Cells.{tab, rawByte, fillByte, count, cellsBy, cellsOf, cells, writes}
+use Rattle.sparse_rules.specs.Cells.{tab, rawByte, fillByte, count, cellsBy, cellsOf, cells}
+use Rattle.sparse_rules.specs.Counts.{writes}
 use Rattle.sparse_rules.proofs.Cells.{cells-cons, length-cellsOf, count-cellsOf, cells-kept}
 use Rattle.sparse_rules.proofs.Image.{chunk-cells, raw-cells, fill-cells}
 use Rattle.sparse_store_rules.specs.Store.{torn, laid}

@@ -10,7 +10,8 @@ use native.Mathlib.Omega.{arith}
 use lib.ListN.{length, getD, take, drop, replicate, take-append-drop, length-drop, length-map, length-replicate, replicate-append-replicate, List·getD-eq-default}
 use lib.Seq.{take-at, drop-at, drop-drop, drop-nil, take-nil, getD-take, getD-drop, length-take-le}
 use Rattle.sparse_rules.specs.declared.Chunk.{Chunk}
-use Rattle.sparse_rules.specs.Cells.{count, cellsOf, cells, writes}
+use Rattle.sparse_rules.specs.Cells.{count, cellsOf, cells}
+use Rattle.sparse_rules.specs.Counts.{writes}
 use Rattle.sparse_rules.proofs.Cells.{cells-nil, cells-cons, length-cellsOf, count-cellsOf, count-some, count-none}
 use Rattle.sparse_store_rules.specs.Blocks.{isStored}
 

@@ -5,7 +5,7 @@ use Prim.Native.Nat.{ℕ, min}
 use lib.ListN.{length}
 use Rattle.rules.specs.Answer.{Answer, accepted, refused, onward}
 use Rattle.sparse_rules.specs.Walk.{Finding}
-use Rattle.sparse_rules.specs.Cells.{written}
+use Rattle.sparse_rules.specs.Counts.{written}
 use Rattle.sparse_rules.specs.Judge.{judged}
 use Rattle.sparse_store_rules.specs.declared.Stored.{Stored}
 use Rattle.sparse_store_rules.specs.declared.Stored.the-variants.{Blocks, Refused}

@@ -9,7 +9,8 @@ use Rattle.sparse_rules.specs.declared.Chunk.{Chunk}
 use Rattle.sparse_rules.specs.Header.{blockSize}
 use Rattle.rules.specs.Answer.{Answer, accepted}
 use Rattle.sparse_rules.specs.Judge.{judged, effect}
-use Rattle.sparse_rules.specs.Answers.{Counts, answer}
+use Rattle.sparse_rules.specs.declared.Counts.{Counts}
+use Rattle.sparse_rules.specs.Answers.{answer}
 use Rattle.sparse_store_rules.specs.Store.{store, cutStore}
 
 -- "A full run of a list hands each image in turn to the plain store"

@@ -9,7 +9,8 @@ use lib.ListN.{length}
 use Rattle.rules.specs.Answer.{accepted, refused, HasNumber}
 use Rattle.sparse_rules.specs.declared.Chunk.{Chunk}
 use Rattle.sparse_rules.specs.Header.{blockSize}
-use Rattle.sparse_rules.specs.Cells.{count, written}
+use Rattle.sparse_rules.specs.Cells.{count}
+use Rattle.sparse_rules.specs.Counts.{written}
 use Rattle.sparse_rules.specs.Judge.{judged, effect}
 use Rattle.sparse_store_rules.specs.Store.{over, torn, store, cutStore, storeUpTo}
 use Rattle.sparse_store_rules.specs.Answers.{cutAnswer}

@@ -8,6 +8,7 @@ ghost use lib.ListN.{length};
 ghost use Rattle.sparse_rules.specs.Answers.{answerOf};
 ghost use Rattle.sparse_stream_rules.specs.States.{begun, answerNow};
 ghost use Rattle.sparse_stream_rules.specs.Passes.{judgeCall, storeCall, storeLeaves, judgeEnd, storeEnd};
+use sparse_rules::Counts;
 use sparse_rules::Cursor;
 use sparse_rules::Refusal;
 use sparse_rules::Verdict;
@@ -17,7 +18,6 @@ use sparse_stream_rules::Kept;
 use sparse_stream_rules::Pass;
 use sparse_stream_rules::Told;
 use sparse_stream_rules::Walk;
-use sparse_stream_state::less;
 use sparse_stream_tests::opening;
 use sparse_stream_tests::refuse;
 
@@ -44,10 +44,15 @@ pub fn begin(length: usize, partition_len: u64) -> Pass
         sum: 0xFFFFFFFF,
     };
     let next = Cursor { at: 0, first: 0 };
+    let counts = Counts {
+        written: 0,
+        dont_care: 0,
+        unknown: 0,
+    };
     let walk = Walk {
         next,
         left: 0,
-        written: 0,
+        counts,
     };
     let kept = Kept {
         file: [0; 28],
@@ -112,11 +117,8 @@ fn verdict(x: Pass) -> Verdict
         let refusal = x.refusal;
         return Verdict::Refused(refusal);
     }
-    let written = x.walk.written;
-    Verdict::Accepted(
-        written,
-        less(x.walk.next.first as usize, written as usize) as u32,
-    )
+    let counts = x.walk.counts;
+    Verdict::Accepted(counts)
 }
 
 // The state of a pass that is finished.

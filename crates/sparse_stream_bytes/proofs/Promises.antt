@@ -28,9 +28,9 @@ again x h =
     let s = h .start in
     let w = h .walk in
     rw
-    (number-bytes 8 (x .told .length) [] (s .0), number-bytes 8 (x .told .room) [] (s .1 .0), number-bytes 4 (x .refusal .number) [] (s .1 .1 .0), number-bytes 8 (x .refusal .place) [] (s .1 .1 .1 .0), number-bytes 8 (x .come .bytes) [] (s .1 .1 .1 .1 .0), number-bytes 4 (x .come .sum) [] (s .1 .1 .1 .1 .1 .0), number-bytes 8 (x .walk .next .at) [] (w .0), number-bytes 4 (x .walk .next .first) [] (w .1 .0), number-bytes 4 (x .walk .left) [] (w .1 .1 .0), number-bytes 4 (x .walk .written) [] (w .1 .1 .1 .0), kept-again (x .kept) (h .file) (h .chunk) (h .word))
+    (number-bytes 8 (x .told .length) [] (s .0), number-bytes 8 (x .told .room) [] (s .1 .0), number-bytes 4 (x .refusal .number) [] (s .1 .1 .0), number-bytes 8 (x .refusal .place) [] (s .1 .1 .1 .0), number-bytes 8 (x .come .bytes) [] (s .1 .1 .1 .1 .0), number-bytes 4 (x .come .sum) [] (s .1 .1 .1 .1 .1 .0), number-bytes 8 (x .walk .next .at) [] (w .0), number-bytes 4 (x .walk .next .first) [] (w .1 .0), number-bytes 4 (x .walk .left) [] (w .1 .1 .0), number-bytes 4 (x .walk .counts .written) [] (w .1 .1 .1 .0), number-bytes 4 (x .walk .counts .«dont_care») [] (w .1 .1 .1 .1 .0), number-bytes 4 (x .walk .counts .unknown) [] (w .1 .1 .1 .1 .1 .0), kept-again (x .kept) (h .file) (h .chunk) (h .word))
 
-long : (x : Pass) → Fits x → length (passBytes x) ≡ 104
+long : (x : Pass) → Fits x → length (passBytes x) ≡ 112
 unfolding passBytes packed
 long x h =
     let kept : length (keptBytes (x .kept)) ≡ 44 =
@@ -38,18 +38,18 @@ long x h =
     rw kept
 
 -- the parts that are kept are the last 44 bytes
-kept-read : (s : List ℕ) → length s ≡ 104 → keptBytes (keptOf s) ≡ drop 60 s
+kept-read : (s : List ℕ) → length s ≡ 112 → keptBytes (keptOf s) ≡ drop 68 s
 kept-read s l =
-    let word : take 4 (drop 100 s) ≡ drop 100 s = take-all 4 (drop 100 s) (rw (length-drop 100 s) (omega arith)) in
-    let chunk : take 12 (drop 88 s) ++ drop 100 s ≡ drop 88 s = rw (← drop-drop 12 88 s) (take-append-drop 12 (drop 88 s)) in
-    let file : take 28 (drop 60 s) ++ drop 88 s ≡ drop 60 s = rw (← drop-drop 28 60 s) (take-append-drop 28 (drop 60 s)) in
+    let word : take 4 (drop 108 s) ≡ drop 108 s = take-all 4 (drop 108 s) (rw (length-drop 108 s) (omega arith)) in
+    let chunk : take 12 (drop 96 s) ++ drop 108 s ≡ drop 96 s = rw (← drop-drop 12 96 s) (take-append-drop 12 (drop 96 s)) in
+    let file : take 28 (drop 68 s) ++ drop 96 s ≡ drop 68 s = rw (← drop-drop 28 68 s) (take-append-drop 28 (drop 68 s)) in
     rw (word, chunk, file)
 
 -- the numbers, then the bytes that are kept
-read : (s : List ℕ) → length s ≡ 104 → Bytes s → passBytes (passOf s) ≡ s
+read : (s : List ℕ) → length s ≡ 112 → Bytes s → passBytes (passOf s) ≡ s
 unfolding passBytes passOf packed
 read s l small =
-    let widths : List ℕ = 8 ∷ 8 ∷ 4 ∷ 8 ∷ 8 ∷ 4 ∷ 8 ∷ 4 ∷ 4 ∷ 4 ∷ [] in
+    let widths : List ℕ = 8 ∷ 8 ∷ 4 ∷ 8 ∷ 8 ∷ 4 ∷ 8 ∷ 4 ∷ 4 ∷ 4 ∷ 4 ∷ 4 ∷ [] in
     ap (λ (r : List ℕ). packed (fieldsAt s 0 widths) ++ r) (kept-read s l) ∙ packed-again s small 0 widths (omega arith)
 
 pub promises : Promises

@@ -1,4 +1,4 @@
--- The state of a pass as 104 bytes: its numbers, low byte first, one after the other, then the bytes that it keeps.
+-- The state of a pass as 112 bytes: its numbers, low byte first, one after the other, then the bytes that it keeps.
 -- Assumes nothing.
 use mathlib.Core.List.{List, [], _∷_, _++_}
 use Prim.Native.Nat.{ℕ}
@@ -13,9 +13,10 @@ use Rattle.sparse_stream_rules.specs.declared.Pass.{Pass}
 abbrev pub startNumbers : ℕ → ℕ → ℕ → ℕ → ℕ → ℕ → List (ℕ × ℕ)
 startNumbers len room number place came sum = (8, len) ∷ (8, room) ∷ (4, number) ∷ (8, place) ∷ (8, came) ∷ (4, sum) ∷ []
 
--- those of the walk over the chunks: where the next one begins, its first block, how many are left, blocks written
-abbrev pub walkNumbers : ℕ → ℕ → ℕ → ℕ → List (ℕ × ℕ)
-walkNumbers at first left written = (8, at) ∷ (4, first) ∷ (4, left) ∷ (4, written) ∷ []
+-- those of the walk over the chunks: where the next one begins, its first block, how many are left, the three counts of blocks
+abbrev pub walkNumbers : ℕ → ℕ → ℕ → ℕ → ℕ → ℕ → List (ℕ × ℕ)
+walkNumbers at first left written dontCare unknown =
+    (8, at) ∷ (4, first) ∷ (4, left) ∷ (4, written) ∷ (4, dontCare) ∷ (4, unknown) ∷ []
 
 -- the numbers of a state
 abbrev pub startOf : Pass → List (ℕ × ℕ)
@@ -23,7 +24,9 @@ startOf x = startNumbers (x .told .length) (x .told .room) (x .refusal .number) 
 
 -- and those of its walk
 abbrev pub walkBy : Pass → List (ℕ × ℕ)
-walkBy x = walkNumbers (x .walk .next .at) (x .walk .next .first) (x .walk .left) (x .walk .written)
+walkBy x =
+    walkNumbers (x .walk .next .at) (x .walk .next .first) (x .walk .left) (x .walk .counts .written) (x .walk .counts .«dont_care»)
+    (x .walk .counts .unknown)
 
 -- the bytes that are kept
 abbrev pub keptBytes : Kept → List ℕ
@@ -39,11 +42,16 @@ part s at n = take n (drop at s)
 
 -- the walk that bytes say
 abbrev pub walkOf : List ℕ → Walk
-walkOf s = record { next = record { at = numberAt s 40 8; first = numberAt s 48 4 }; left = numberAt s 52 4; written = numberAt s 56 4 }
+walkOf s =
+    record {
+      next = record { at = numberAt s 40 8; first = numberAt s 48 4 };
+      left = numberAt s 52 4;
+      counts = record { written = numberAt s 56 4; «dont_care» = numberAt s 60 4; unknown = numberAt s 64 4 };
+    }
 
 -- the bytes that they keep
 abbrev pub keptOf : List ℕ → Kept
-keptOf s = record { file = part s 60 28; chunk = part s 88 12; word = part s 100 4 }
+keptOf s = record { file = part s 68 28; chunk = part s 96 12; word = part s 108 4 }
 
 -- the state that bytes say
 unfoldable pub passOf : List ℕ → Pass

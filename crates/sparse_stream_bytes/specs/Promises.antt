@@ -1,4 +1,4 @@
--- What holds of the state as bytes: it is the state, and any 104 bytes at all are one.
+-- What holds of the state as bytes: it is the state, and any 112 bytes at all are one.
 -- Assumes nothing.
 use mathlib.Core.Path.{_≡_}
 use mathlib.Core.List.{List, [], _∷_}
@@ -21,12 +21,12 @@ pub record Fits (x : Pass) : Type 0 where
   pub chunk : length (x .kept .chunk) ≡ 12
   pub word : length (x .kept .word) ≡ 4
 
--- what is written of a state: 104 bytes that are read as the state again
+-- what is written of a state: 112 bytes that are read as the state again
 pub record Written (x : Pass) : Type 0 where
-  pub long : length (passBytes x) ≡ 104
+  pub long : length (passBytes x) ≡ 112
   pub again : passOf (passBytes x) ≡ x
 
 -- writing and reading are a round trip both ways
 pub record Promises : Type 0 where
   pub written : (x : Pass) → Fits x → Written x
-  pub read : (s : List ℕ) → length s ≡ 104 → Bytes s → passBytes (passOf s) ≡ s
+  pub read : (s : List ℕ) → length s ≡ 112 → Bytes s → passBytes (passOf s) ≡ s

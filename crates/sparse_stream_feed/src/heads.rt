@@ -1,14 +1,12 @@
 // The bytes of the file header and of a chunk header: kept until their known fields have come, then tested.
 ghost use mathlib.Core.Path.{_≡_};
-ghost use mathlib.Core.Bool.{cond};
 ghost use Prim.Native.Nat.{_+_, _-_, _^_, _≤_, _<_};
 ghost use lib.ListN.{length, take, drop};
 ghost use lib.Seq.{sets};
-ghost use Rattle.sparse_rules.specs.Cells.{writes};
 ghost use Rattle.sparse_stream_rules.specs.State.{headOf, moved, keeping};
 ghost use Rattle.sparse_stream_rules.specs.Steps.{ready, headed, chunkNumber, chunkRead, chunkTaken, gathered};
+use sparse_kind::count_on;
 use sparse_rules::Cursor;
-use sparse_rules::Kind;
 use sparse_stream_rules::Come;
 use sparse_stream_rules::Kept;
 use sparse_stream_rules::Pass;
@@ -48,10 +46,11 @@ fn await_chunks(x: Pass) -> Pass
         at: header.start as usize,
         first: x.walk.next.first,
     };
+    let counts = x.walk.counts;
     let walk = Walk {
         next,
         left: header.chunks,
-        written: x.walk.written,
+        counts,
     };
     let mut y = x;
     y.walk = walk;
@@ -78,18 +77,6 @@ pub(crate) fn take_header(x: Pass, b: u8) -> Pass
     refuse(y, number, 0)
 }
 
-// How many of so many blocks a kind of chunk writes.
-fn blocks_written(kind: Kind, blocks: u32) -> u32
-    ensures { λ r. ⌜ r ≡ cond (writes kind) blocks 0 ⌝ }
-{
-    match kind {
-        Kind::Raw => blocks,
-        Kind::Fill => blocks,
-        Kind::DontCare => 0,
-        Kind::Unknown => 0,
-    }
-}
-
 // Past the size and the blocks of a chunk that is not refused, of so many total blocks.
 fn pass_chunk(x: Pass, total: u32) -> Pass
     requires { ⌜ (chunkNumber x ≡ 0) × (total ≡ headOf x .total) ⌝ }
@@ -105,7 +92,7 @@ fn pass_chunk(x: Pass, total: u32) -> Pass
     let walk = Walk {
         next,
         left: less(x.walk.left as usize, 1) as u32,
-        written: std::num::wrapping_add_u32(x.walk.written, blocks_written(kind, blocks)),
+        counts: count_on(x.walk.counts, kind, blocks),
     };
     let come = Come {
         bytes: x.come.bytes,

@@ -9,8 +9,7 @@ use lib.Dec.{ltb, eqb}
 use lib.ListN.{length}
 use borrow.Author.Tests.{ltb-true, ltb-false, lt-ltb, le-ltb, eq-eqb, ne-eqb}
 use Rattle.rules.specs.First.{first}
-use Rattle.sparse_rules.specs.Answers.{counts}
-use Rattle.rules.specs.Answer.{refused}
+use Rattle.rules.specs.Answer.{accepted, refused}
 use Rattle.sparse_stream_rules.specs.declared.Pass.{Pass}
 use Rattle.sparse_stream_rules.specs.State.{stopOr}
 use Rattle.sparse_stream_rules.specs.Steps.{headerNumber, opened}
@@ -111,7 +110,6 @@ unfolding answerNow
 answer-refused x h = rw (lt-ltb _ _ h)
 
 -- and that of any other
-pub answer-counts : (x : Pass) (k : ℕ) → x .refusal .number ≤ 0 → k ≡ x .walk .next .first - x .walk .written
-    → counts (x .walk .written) k ≡ answerNow x
+pub answer-counts : (x : Pass) → x .refusal .number ≤ 0 → accepted (x .walk .counts) ≡ answerNow x
 unfolding answerNow
-answer-counts x k h e = rw (le-ltb _ _ h, e)
+answer-counts x h = rw (le-ltb _ _ h)

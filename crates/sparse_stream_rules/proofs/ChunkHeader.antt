@@ -1,10 +1,10 @@
 -- A byte of a chunk's header.
 -- Assumes nothing.
 use mathlib.Core.Path.{_≡_, refl, sym, ap, ap₂, _∙_}
-use mathlib.Core.Bool.{Bool, true, false, not, cond}
+use mathlib.Core.Bool.{Bool, true, false, not}
 use mathlib.Core.Option.{Option, none}
 use mathlib.Core.List.{List, [], _∷_, _++_, append-nil, append-assoc}
-use Prim.Native.Nat.{ℕ, zero, suc, _+_, _-_, _*_, _%_, _^_, _≤_, _<_}
+use Prim.Native.Nat.{ℕ, zero, suc, _+_, _-_, _*_, _^_, _≤_, _<_}
 use native.Mathlib.Omega.{arith}
 use lib.Dec.{ltb, eqb}
 use lib.ListN.{length, getD, set, replicate, length-append, length-set, List·getD-append}
@@ -18,11 +18,14 @@ use Rattle.sparse_rules.specs.declared.Cursor.{Cursor}
 use Rattle.sparse_rules.specs.declared.Kind.{Kind}
 use Rattle.sparse_rules.specs.declared.Kind.the-variants.{Raw, Fill, DontCare, Unknown}
 use Rattle.sparse_rules.specs.declared.Chunk.{Chunk}
+use Rattle.sparse_rules.specs.declared.Counts.{Counts}
 use Rattle.sparse_rules.specs.Chunks.{kindOf, sizeRight, chunkTests, chunkAt, nextCursor}
-use Rattle.sparse_rules.specs.Cells.{zeroed, cellsBy, written, writes}
+use Rattle.sparse_rules.specs.Cells.{zeroed, cellsBy}
+use Rattle.sparse_rules.specs.Counts.{writes, countsOf, countedOn}
 use Rattle.sparse_rules.specs.Facts.{HeaderFacts, dataBytes, Complete}
 use Rattle.sparse_rules.proofs.Facts.{size-holds, data-one, size-exact}
-use Rattle.sparse_rules.proofs.Cells.{written-append, written-cons, written-nil, zeroed-append, zeroed-none, stored-most}
+use Rattle.sparse_rules.proofs.Cells.{zeroed-append, zeroed-none}
+use Rattle.sparse_rules.proofs.Counting.{blocks-one, counted-on}
 use Rattle.sparse_store_rules.proofs.Over.{laid-kept}
 use Rattle.sparse_stream_rules.specs.declared.Pass.{Pass}
 use Rattle.sparse_stream_rules.specs.Known.{whenTested, moreKnown, knownFrom, dueBy, dueFrom}
@@ -35,7 +38,7 @@ use Rattle.fields_rules.proofs.Laws.{number-same}
 use Rattle.sparse_stream_rules.proofs.Due.{raw-early, fill-early, due-one, complete-stays, complete-one, dues-stay}
 use Rattle.sparse_stream_rules.proofs.Sums.{sum-on-nil, sum-on-append}
 use Rattle.sparse_stream_rules.proofs.Standing.{Laying, moreAll, more-one, cursor, chunksKnown, Base, AtHeader, at-header, in-chunk, After, goes, stop-at, settles}
-use Rattle.sparse_stream_rules.proofs.OneByte.{headers, blocks-one, kept-is}
+use Rattle.sparse_stream_rules.proofs.OneByte.{headers, kept-is}
 
 -- the tests of a chunk by its fields
 abbrev numberBy : Header → ℕ → ℕ → ℕ → Kind → ℕ → ℕ → ℕ
@@ -101,7 +104,7 @@ module _ (len room : ℕ) (lay : List (Option ℕ) → List ℕ) (n₀ : ℕ) (h
           head = base .head;
           same = headers s (b ∷ []) (base .long) ∙ base .same;
           rest = λ t. rw (append-assoc s (b ∷ []) t) (base .rest (b ∷ t));
-          wrote = base .wrote;
+          counts = base .counts;
           blocks = base .blocks;
           within = base .within;
           inside = base .inside;
@@ -183,13 +186,10 @@ module _ (len room : ℕ) (lay : List (Option ℕ) → List ℕ) (n₀ : ℕ) (h
         dues : dueFrom (s ++ (b ∷ [])) (h .block) (ks ++ (k ∷ [])) ≡ dueFrom (s ++ (b ∷ [])) (h .block) ks ++ dueBy (s ++ (b ∷ [])) (k .kind) (k .body) (k .blocks * h .block)
         dues = due-one (s ++ (b ∷ [])) (h .block) ks k
 
-        wrote : written (ks ++ (k ∷ [])) ≡ (x .walk .written + cond (writes (k .kind)) (k .blocks) 0) % 2 ^ 32
-        wrote =
-            let e : written (ks ++ (k ∷ [])) ≡ x .walk .written + cond (writes (k .kind)) (k .blocks) 0 =
-            written-append ks (k ∷ []) ∙ ap₂ (λ (l r : ℕ). l + r) (base .wrote) (written-cons k [] ∙ rw written-nil (omega arith)) in
-            let m : x .walk .written + cond (writes (k .kind)) (k .blocks) 0 < 2 ^ 32 =
-            omega (arith, base .blocks, base .wrote, stored-most k, passes .within) in
-            e ∙ omega (arith, m)
+        counted : countsOf (ks ++ (k ∷ [])) ≡ countedOn (x .walk .counts) (k .kind) (k .blocks)
+        counted =
+            counted-on ks k (omega (arith, base .blocks, passes .within))
+            ∙ ap (λ (c : Counts). countedOn c (k .kind) (k .blocks)) (base .counts)
 
         sum-is : skipSum (writes (k .kind)) (headOf x) (spanNow (chunkKept x b)) (x .come .sum) ≡ sumOn h allOnes (zeroed (dueFrom (s ++ (b ∷ [])) (h .block) (ks ++ (k ∷ []))))
         sum-is =
@@ -226,7 +226,7 @@ module _ (len room : ℕ) (lay : List (Option ℕ) → List ℕ) (n₀ : ℕ) (h
               head = base .head;
               same = kept .same;
               rest = rest-is;
-              wrote = wrote;
+              counts = counted;
               blocks = blocks-one ks k ∙ ap (λ (n : ℕ). n + k .blocks) (base .blocks);
               within = passes .within;
               inside = passes .inside;

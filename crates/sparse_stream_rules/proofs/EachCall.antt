@@ -4,7 +4,7 @@ use mathlib.Core.Path.{_≡_, refl, sym, ap, _∙_}
 use mathlib.Core.Bool.{Bool, true, false}
 use mathlib.Core.Option.{Option, none}
 use mathlib.Core.List.{List, [], _∷_, _++_, append-nil, append-assoc}
-use Prim.Native.Nat.{ℕ, zero, suc, _+_, _-_, _≤_, _<_}
+use Prim.Native.Nat.{ℕ, zero, suc, _+_, _≤_, _<_}
 use native.Mathlib.Nat.{not-suc-le-zero}
 use native.Mathlib.Omega.{arith}
 use lib.Dec.{ltb}
@@ -79,7 +79,7 @@ module _ (len room : ℕ) (lay lay′ : List (Option ℕ) → List ℕ) (n₀ n 
         bytes = o .bytes;
         width = o .width;
         first = o .first;
-        wrote = o .wrote;
+        counts = o .counts;
         sum = o .sum;
         chunk = o .chunk;
         word = o .word;
@@ -123,7 +123,7 @@ module _ (len room : ℕ) (lay lay′ : List (Option ℕ) → List ℕ) (n₀ n 
             head = b .head;
             same = b .same;
             rest = b .rest;
-            wrote = b .wrote;
+            counts = b .counts;
             blocks = b .blocks;
             within = b .within;
             inside = b .inside;
@@ -237,7 +237,7 @@ module _ (len room : ℕ) where
     known-so : Says len room (s ++ c) (fed (opened x) c) → Stood (fed (opened x) c) (afterKnown (s ++ c) (known (s ++ c) len room))
     known-so (refusal ks n e) = rw e (stood n refl refl)
     known-so (more ks n l e) = rw e (stands (still n))
-    known-so (done ks n l e w m) = rw e (stands (still n))
+    known-so (done ks n l e c) = rw e (stands (still n))
 
     taken-so : Stood (fed (opened x) c) (afterKnown (s ++ c) (known (s ++ c) len room))
     taken-so = known-so (says len room (onto (blank room)) 0 (fed (opened x) c) (s ++ c) (own .0) joined (own .1))
@@ -472,7 +472,7 @@ module _ (len room : ℕ) where
   unfolding answerNow finished
   answer-says x s l (refusal ks n e) = rw (e, lt-ltb 0 (x .refusal .number) n)
   answer-says x s l (more ks n m e) = absurd (omega arith)
-  answer-says x s l (done ks n m e w k) = rw (e, n) (rw (e, w, k))
+  answer-says x s l (done ks n m e c) = rw (e, n) (rw (e, c))
 
   free-answer : (ts us : List (Bool × ℕ)) (x : Pass) (s : List ℕ) → Free x s → Tests ts us x s [] → (first us ≡ 0 → length s ≡ len)
       → (m : ℕ) → first us ≡ m

@@ -4,7 +4,7 @@ use mathlib.Core.Path.{_≡_, refl, sym, ap, ap₂, _∙_}
 use mathlib.Core.Bool.{Bool, true, false}
 use mathlib.Core.Option.{Option, none}
 use mathlib.Core.List.{List, [], _∷_, _++_, append-nil, append-assoc}
-use Prim.Native.Nat.{ℕ, zero, suc, _+_, _-_, _^_, _≤_, _<_}
+use Prim.Native.Nat.{ℕ, zero, suc, _+_, _^_, _≤_, _<_}
 use native.Mathlib.Omega.{arith}
 use lib.Dec.{ltb, eqb}
 use lib.ListN.{length, getD, set, replicate, length-append, length-set, List·getD-append, List·getD-eq-default}
@@ -19,10 +19,11 @@ use Rattle.sparse_rules.specs.declared.Chunk.{Chunk}
 use Rattle.sparse_rules.specs.Header.{headerOf, headerTests}
 use Rattle.sparse_rules.specs.Chunks.{kindOf}
 use Rattle.sparse_rules.specs.Walk.{origin}
-use Rattle.sparse_rules.specs.Cells.{zeroed, written}
+use Rattle.sparse_rules.specs.Cells.{zeroed}
+use Rattle.sparse_rules.specs.Counts.{written}
 use Rattle.sparse_rules.specs.Facts.{HeaderFacts}
 use Rattle.sparse_rules.proofs.Facts.{header-facts}
-use Rattle.sparse_rules.proofs.Cells.{written-nil, skipped-nil}
+use Rattle.sparse_rules.proofs.Counting.{counts-none}
 use Rattle.sparse_stream_rules.specs.declared.Pass.{Pass}
 use Rattle.sparse_stream_rules.specs.Known.{Tested, passes, waits, refuses, tested, headerEnds, stopped, knownFrom, knownSum, known, dueFrom, due, testedNumber}
 use Rattle.sparse_stream_rules.specs.State.{headOf, kindNow, stuck, stopOr}
@@ -84,7 +85,7 @@ module _ (len room : ℕ) (lay : List (Option ℕ) → List ℕ) (n₀ : ℕ) wh
     pub bytes : (i : ℕ) → i < length s → getD (x .kept .file) i 0 ≡ getD s i 0
     pub width : length (x .kept .file) ≡ 28
     pub first : x .walk .next .first ≡ 0
-    pub wrote : x .walk .written ≡ 0
+    pub counts : x .walk .counts ≡ record { written = 0; «dont_care» = 0; unknown = 0 }
     pub sum : x .come .sum ≡ allOnes
     pub chunk : x .kept .chunk ≡ replicate 12 0
     pub word : x .kept .word ≡ replicate 4 0
@@ -183,8 +184,8 @@ module _ (len room : ℕ) (lay : List (Option ℕ) → List ℕ) (n₀ : ℕ) wh
                   λ t. ap₂
                   (λ (k : Header) (n : ℕ). knownFrom ((s ++ (b ∷ [])) ++ t) len h (k .chunks) (record { at = k .start; first = n }))
                   (sym head) (sym (o .first));
-              wrote = written-nil ∙ sym (o .wrote);
-              blocks = rw (written-nil, skipped-nil, o .first);
+              counts = counts-none ∙ sym (o .counts);
+              blocks = sym (o .first);
               within = rw (o .first) (omega arith);
               inside = omega (arith, start-is, facts .start-inside);
               sum = o .sum ∙ sym (sum-on-nil h allOnes);
@@ -230,7 +231,7 @@ module _ (len room : ℕ) (lay : List (Option ℕ) → List ℕ) (n₀ : ℕ) wh
             bytes = bytes-are;
             width = length-set (x .kept .file) (x .come .bytes) b ∙ o .width;
             first = o .first;
-            wrote = o .wrote;
+            counts = o .counts;
             sum = o .sum;
             chunk = o .chunk;
             word = o .word;

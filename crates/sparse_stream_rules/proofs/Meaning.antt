@@ -4,7 +4,7 @@ use mathlib.Core.Path.{_≡_, refl, sym, ap, _∙_}
 use mathlib.Core.Bool.{Bool, true, false}
 use mathlib.Core.Option.{Option}
 use mathlib.Core.List.{List, [], _++_, append-nil}
-use Prim.Native.Nat.{ℕ, _+_, _-_, _≤_, _<_}
+use Prim.Native.Nat.{ℕ, _+_, _≤_, _<_}
 use native.Mathlib.Omega.{arith}
 use lib.Dec.{ltb}
 use lib.ListN.{length, replicate}
@@ -14,7 +14,7 @@ use Rattle.sparse_rules.specs.declared.Header.{Header}
 use Rattle.sparse_rules.specs.declared.Chunk.{Chunk}
 use Rattle.sparse_rules.specs.Header.{headerOf, headerTests, totalChunks}
 use Rattle.sparse_rules.specs.Walk.{endTests, origin}
-use Rattle.sparse_rules.specs.Cells.{written, skipped}
+use Rattle.sparse_rules.specs.Counts.{countsOf}
 use Rattle.sparse_rules.specs.Judge.{sumTests, judged}
 use Rattle.sparse_rules.specs.Answers.{answerFor, answer}
 use Rattle.sparse_rules.proofs.Facts.{header-facts}
@@ -77,7 +77,7 @@ starts len room lay n₀ z = go (ltb len 28) refl
           bytes = λ i m. absurd (omega arith);
           width = refl;
           first = refl;
-          wrote = refl;
+          counts = refl;
           sum = refl;
           chunk = refl;
           word = refl;
@@ -124,8 +124,8 @@ pub data Says (len room : ℕ) (s : List ℕ) (x : Pass) : Type 0 where
   refusal : (ks : List Chunk) → 0 < x .refusal .number → known s len room ≡ stopped ks (x .refusal .number) (x .refusal .place)
       → Says len room s x
   more : (ks : List Chunk) → x .refusal .number ≡ 0 → length s < len → known s len room ≡ waiting ks → Says len room s x
-  done : (ks : List Chunk) → x .refusal .number ≡ 0 → length s ≡ len → known s len room ≡ whole ks → written ks ≡ x .walk .written
-      → skipped ks ≡ x .walk .next .first - x .walk .written → Says len room s x
+  done : (ks : List Chunk) → x .refusal .number ≡ 0 → length s ≡ len → known s len room ≡ whole ks → countsOf ks ≡ x .walk .counts
+      → Says len room s x
 
 -- a whole image, by the number of the checksum's test
 summed-whole : (s : List ℕ) (ks : List Chunk) → first (sumTests s ks) ≡ 0 → knownSum s (whole ks) ≡ whole ks
@@ -166,7 +166,7 @@ module _ (len room : ℕ) (lay : List (Option ℕ) → List ℕ) (n₀ : ℕ) (x
     says-after (goes ks b (in-chunk i)) =
         more ks (b .number) (omega (arith, i .before, b .inside))
         (waits-so ks b (from-early s len h (x .walk .left) (cursor x) (i .before)))
-    says-after (goes ks b (at-end i)) = done ks (b .number) (i .end) (end-whole ks b i) (b .wrote) (omega (arith, b .blocks, b .wrote))
+    says-after (goes ks b (at-end i)) = done ks (b .number) (i .end) (end-whole ks b i) (b .counts)
 
     due-is : (ks : List Chunk) → passed (known s len room) ≡ ks → due s len room ≡ dueFrom s (h .block) ks
     unfolding due
@@ -230,9 +230,9 @@ number-not len room s x (refusal ks n e) l =
     let j : findingOf (known s len room) ≡ judged s len room = rw l at (judged-known s room) in
     rw (lt-ltb 0 (x .refusal .number) n, ← j, e)
 number-not len room s x (more ks n m e) l = absurd (omega arith)
-number-not len room s x (done ks n m e w k) l =
+number-not len room s x (done ks n m e c) l =
     let j : findingOf (known s len room) ≡ judged s len room = rw l at (judged-known s room) in
-    rw (n, ← j, e, w, k)
+    rw (n, ← j, e, c)
 
 -- the judge's
 pub answered : (len room : ℕ) (lay : List (Option ℕ) → List ℕ) (n₀ : ℕ) (x : Pass) (s q : List ℕ) → length s ≡ len

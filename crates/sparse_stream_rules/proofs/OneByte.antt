@@ -20,9 +20,11 @@ use Rattle.sparse_rules.specs.declared.Kind.{Kind}
 use Rattle.sparse_rules.specs.declared.Kind.the-variants.{Raw, Fill, DontCare, Unknown}
 use Rattle.sparse_rules.specs.declared.Chunk.{Chunk}
 use Rattle.sparse_rules.specs.Header.{headerOf}
-use Rattle.sparse_rules.specs.Cells.{zeroed, cellsBy, written, skipped, writes}
+use Rattle.sparse_rules.specs.Cells.{zeroed, cellsBy}
+use Rattle.sparse_rules.specs.Counts.{writes}
 use Rattle.sparse_rules.specs.Facts.{HeaderFacts, dataBytes}
-use Rattle.sparse_rules.proofs.Cells.{written-append, skipped-append, written-nil, skipped-nil, blocks-cons, length-cells, length-cellsBy, zeroed-append, zeroed-fill}
+use Rattle.sparse_rules.proofs.Counting.{blocksIn, blocks-one}
+use Rattle.sparse_rules.proofs.Cells.{length-cells, length-cellsBy, zeroed-append, zeroed-fill}
 use Rattle.sparse_rules.proofs.SumLaws.{words}
 use Rattle.sparse_store_rules.specs.Store.{laid}
 use Rattle.sparse_stream_rules.specs.declared.Pass.{Pass}
@@ -39,11 +41,6 @@ use Rattle.sparse_stream_rules.proofs.Standing.{Laying, Base, InFile, I
 -- the header of a list that goes on
 pub headers : (s t : List ℕ) → 28 ≤ length s → headerOf (s ++ t) ≡ headerOf s
 headers s t l = header-same (s ++ t) s (λ i k. List·getD-append s t 0 i (omega arith))
-
--- blocks of chunks and one more
-pub blocks-one : (ks : List Chunk) (k : Chunk) → written (ks ++ (k ∷ [])) + skipped (ks ++ (k ∷ [])) ≡ written ks + skipped ks + k .blocks
-blocks-one ks k =
-    omega (arith, written-append ks (k ∷ []), skipped-append ks (k ∷ []), blocks-cons k [], written-nil, skipped-nil)
 
 -- a state after one byte, with other numbers for what the byte changes
 abbrev grown : Pass → ℕ → List ℕ → Pass
@@ -121,7 +118,7 @@ module _ (len room : ℕ) (lay : List (Option ℕ) → List ℕ) (n₀ : ℕ) (h
           head = base .head;
           same = headers s (b ∷ []) (base .long) ∙ base .same;
           rest = λ t. rw (append-assoc s (b ∷ []) t) (base .rest (b ∷ t));
-          wrote = base .wrote;
+          counts = base .counts;
           blocks = base .blocks;
           within = base .within;
           inside = base .inside;
@@ -167,13 +164,13 @@ module _ (len room : ℕ) (lay : List (Option ℕ) → List ℕ) (n₀ : ℕ) (h
 
     module _ (i : InChunk len room lay n₀ h x s ks) where
       abbrev from : ℕ
-      from = (written (i .init) + skipped (i .init)) * h .block
+      from = blocksIn (i .init) * h .block
 
       abbrev span : ℕ
       span = i .last .blocks * h .block
 
-      first-is : x .walk .next .first ≡ written (i .init) + skipped (i .init) + i .last .blocks
-      first-is = sym (base .blocks) ∙ ap (λ (r : List Chunk). written r + skipped r) (i .is) ∙ blocks-one (i .init) (i .last)
+      first-is : x .walk .next .first ≡ blocksIn (i .init) + i .last .blocks
+      first-is = sym (base .blocks) ∙ ap blocksIn (i .is) ∙ blocks-one (i .init) (i .last)
 
       span-is : spanNow x ≡ span
       span-is = ap₂ (λ (n : ℕ) (o : Header). n * o .block) (sym (i .size)) (base .head)
@@ -181,7 +178,7 @@ module _ (len room : ℕ) (lay : List (Option ℕ) → List ℕ) (n₀ : ℕ) (h
       end-is : endNow x ≡ from + span
       end-is =
           ap₂ (λ (n : ℕ) (o : Header). n * o .block) first-is (base .head)
-          ∙ add-mul (written (i .init) + skipped (i .init)) (i .last .blocks) (h .block)
+          ∙ add-mul (blocksIn (i .init)) (i .last .blocks) (h .block)
 
       init-length : length (dueFrom s (h .block) (i .init)) ≡ from
       init-length = ap length (dues-all s (h .block) (i .init) (i .complete)) ∙ length-cells s (h .block) (i .init)

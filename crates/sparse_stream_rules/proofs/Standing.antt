@@ -4,7 +4,7 @@ use mathlib.Core.Path.{_≡_, refl, sym, ap, _∙_}
 use mathlib.Core.Bool.{Bool, true, false, cond}
 use mathlib.Core.Option.{Option, none}
 use mathlib.Core.List.{List, [], _∷_, _++_, append-nil}
-use Prim.Native.Nat.{ℕ, suc, _+_, _-_, _*_, _≤_, _<_}
+use Prim.Native.Nat.{ℕ, suc, _+_, _*_, _≤_, _<_}
 use native.Mathlib.Omega.{arith}
 use lib.Bits.{bitXor}
 use lib.Dec.{ltb, eqb}
@@ -18,11 +18,13 @@ use Rattle.sparse_rules.specs.declared.Kind.the-variants.{Fill, Unknown}
 use Rattle.sparse_rules.specs.declared.Chunk.{Chunk}
 use Rattle.sparse_rules.specs.Header.{headerOf, blockSize, statedChecksum}
 use Rattle.sparse_rules.specs.Walk.{endTests, origin}
-use Rattle.sparse_rules.specs.Cells.{zeroed, written, skipped, writes, checksumOf}
+use Rattle.sparse_rules.specs.Cells.{zeroed, checksumOf}
+use Rattle.sparse_rules.specs.Counts.{writes, countsOf}
 use Rattle.sparse_rules.specs.Judge.{sumDiffers, sumTests}
 use Rattle.sparse_rules.specs.Facts.{dataBytes, Complete}
 use Rattle.sparse_rules.proofs.Facts.{sum-number}
 use Rattle.sparse_rules.proofs.SumLaws.{sum-finish}
+use Rattle.sparse_rules.proofs.Counting.{blocksIn}
 use Rattle.sparse_store_rules.specs.Store.{laid}
 use Rattle.sparse_stream_rules.specs.declared.Pass.{Pass}
 use Rattle.sparse_stream_rules.specs.Known.{Known, stopped, waiting, whole, whenTested, moreKnown, knownFrom, knownSum, dueFrom}
@@ -81,8 +83,8 @@ module _ (len room : ℕ) (lay : List (Option ℕ) → List ℕ) (n₀ : ℕ) (h
     pub head : headOf x ≡ h
     pub same : headerOf s ≡ h
     pub rest : (t : List ℕ) → chunksKnown (s ++ t) ≡ moreAll ks (knownFrom (s ++ t) len h (x .walk .left) (cursor x))
-    pub wrote : written ks ≡ x .walk .written
-    pub blocks : written ks + skipped ks ≡ x .walk .next .first
+    pub counts : countsOf ks ≡ x .walk .counts
+    pub blocks : blocksIn ks ≡ x .walk .next .first
     pub within : x .walk .next .first ≤ h .total
     pub inside : x .walk .next .at ≤ len
     pub sum : x .come .sum ≡ sumOn h allOnes (zeroed (dueFrom s (h .block) ks))

@@ -14,7 +14,8 @@ use Rattle.rules.specs.First.{first}
 use Rattle.sparse_rules.specs.declared.Kind.{Kind}
 use Rattle.sparse_rules.specs.declared.Kind.the-variants.{Raw, Fill, DontCare, Unknown}
 use Rattle.sparse_rules.specs.Header.{headerOf}
-use Rattle.sparse_rules.specs.Cells.{cellsBy, writes}
+use Rattle.sparse_rules.specs.Cells.{cellsBy}
+use Rattle.sparse_rules.specs.Counts.{writes}
 use Rattle.sparse_store_rules.proofs.Over.{length-over}
 use Rattle.sparse_stream_rules.specs.declared.Told.{Told}
 use Rattle.sparse_stream_rules.specs.declared.Come.{Come}

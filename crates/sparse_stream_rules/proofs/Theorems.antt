@@ -3,12 +3,13 @@
 use mathlib.Core.Path.{_≡_, refl, ap, ap₂, _∙_, subst}
 use mathlib.Core.Bool.{Bool, true, false, cond}
 use mathlib.Core.List.{List, _∷_}
-use Prim.Native.Nat.{ℕ, _-_}
+use Prim.Native.Nat.{ℕ}
 use lib.Dec.{ltb}
 use lib.ListN.{length}
 use borrow.Author.Tests.{ltb-true}
-use Rattle.rules.specs.Answer.{Answer, refused, HasNumber}
-use Rattle.sparse_rules.specs.Answers.{Counts, counts, answer}
+use Rattle.rules.specs.Answer.{Answer, accepted, refused, HasNumber}
+use Rattle.sparse_rules.specs.declared.Counts.{Counts}
+use Rattle.sparse_rules.specs.Answers.{answer}
 use Rattle.sparse_store_rules.specs.Runs.{run, answers, Cut, past, Reached, start, again}
 use Rattle.sparse_store_rules.proofs.Restart.{restart}
 use Rattle.sparse_stream_rules.specs.Theorems.{PassCut, PassReached, PassRun, ImageBytes, PassRestart, OnlyDue, EachStores, EachAnswers, Unsummed, RefusalNumbers}
@@ -72,6 +73,6 @@ unfolding answerNow
 refusal-numbers x = by (ltb 0 (x .refusal .number)) refl
   where
     by : (t : Bool) → ltb 0 (x .refusal .number) ≡ t
-        → HasNumber (cond t (refused (x .refusal .number) (x .refusal .place)) (counts (x .walk .written) (x .walk .next .first - x .walk .written)))
+        → HasNumber (cond t (refused (x .refusal .number) (x .refusal .place)) (accepted (x .walk .counts)))
     by true e = ltb-true 0 (x .refusal .number) e
     by false e = tt

@@ -6,9 +6,9 @@ use Prim.Native.Nat.{ℕ, zero, suc, _+_}
 use lib.Dec.{ltb, eqb}
 use lib.ListN.{length, drop}
 use Rattle.rules.specs.First.{first}
-use Rattle.sparse_rules.specs.Cells.{written, skipped}
-use Rattle.sparse_rules.specs.Answers.{Counts, counts}
-use Rattle.rules.specs.Answer.{refused, Answer}
+use Rattle.sparse_rules.specs.Counts.{countsOf}
+use Rattle.sparse_rules.specs.declared.Counts.{Counts}
+use Rattle.rules.specs.Answer.{accepted, refused, Answer}
 use Rattle.sparse_store_rules.specs.Store.{laid}
 use Rattle.sparse_stream_rules.specs.Known.{Known, stopped, waiting, whole, known, passed, due}
 
@@ -71,7 +71,7 @@ storeFinish len room lent v = bring len room (lentTest room lent ∷ shortTest l
 -- what a call that finishes answers
 unfoldable pub finished : ℕ → ℕ → Past → Answer Counts
 finished len room (given s n place) = refused n place
-finished len room (going s) = counts (written (passed (known s len room))) (skipped (passed (known s len room)))
+finished len room (going s) = accepted (countsOf (passed (known s len room)))
 
 -- "Each call of the storing pass stores exactly the bytes that have come due since the last": from one past to the next
 unfoldable pub lays : ℕ → ℕ → Past → Past → List ℕ → List ℕ

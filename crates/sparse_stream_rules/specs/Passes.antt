@@ -8,7 +8,8 @@ use Rattle.fields_rules.specs.Number.{Bytes}
 use Rattle.sparse_rules.specs.declared.Chunk.{Chunk}
 use Rattle.rules.specs.Answer.{accepted, Answer}
 use Rattle.sparse_rules.specs.Judge.{judged}
-use Rattle.sparse_rules.specs.Answers.{Counts, answer}
+use Rattle.sparse_rules.specs.declared.Counts.{Counts}
+use Rattle.sparse_rules.specs.Answers.{answer}
 use Rattle.sparse_store_rules.specs.Store.{over, store}
 use Rattle.sparse_stream_rules.specs.declared.Pass.{Pass}
 use Rattle.sparse_stream_rules.specs.Known.{due}

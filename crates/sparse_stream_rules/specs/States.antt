@@ -2,13 +2,13 @@
 -- Assumes nothing.
 use mathlib.Core.Bool.{Bool, not, cond}
 use mathlib.Core.List.{List, [], _∷_}
-use Prim.Native.Nat.{ℕ, _+_, _-_}
+use Prim.Native.Nat.{ℕ, _+_}
 use lib.Dec.{ltb, eqb}
 use lib.ListN.{length, replicate}
 use Rattle.rules.specs.First.{first}
 use Rattle.crc32_rules.specs.Crc.{allOnes}
-use Rattle.sparse_rules.specs.Answers.{Counts, counts}
-use Rattle.rules.specs.Answer.{refused, Answer}
+use Rattle.sparse_rules.specs.declared.Counts.{Counts}
+use Rattle.rules.specs.Answer.{accepted, refused, Answer}
 use Rattle.sparse_stream_rules.specs.declared.Pass.{Pass}
 use Rattle.sparse_stream_rules.specs.State.{stopOr}
 
@@ -19,7 +19,7 @@ begun len room =
       told = record { length = len; room = room };
       refusal = record { number = 0; place = 0 };
       come = record { bytes = 0; sum = allOnes };
-      walk = record { next = record { at = 0; first = 0 }; left = 0; written = 0 };
+      walk = record { next = record { at = 0; first = 0 }; left = 0; counts = record { written = 0; «dont_care» = 0; unknown = 0 } };
       kept = record { file = replicate 28 0; chunk = replicate 12 0; word = replicate 4 0 };
     }
 
@@ -61,4 +61,4 @@ lentFinishTests x lent = lentPass x lent ∷ shortPass x ∷ []
 
 -- a state's answer: its refusal with its place, or the counts of blocks
 unfoldable pub answerNow : Pass → Answer Counts
-answerNow x = cond (ltb 0 (x .refusal .number)) (refused (x .refusal .number) (x .refusal .place)) (counts (x .walk .written) (x .walk .next .first - x .walk .written))
+answerNow x = cond (ltb 0 (x .refusal .number)) (refused (x .refusal .number) (x .refusal .place)) (accepted (x .walk .counts))

@@ -2,7 +2,7 @@
 -- Assumes nothing.
 use mathlib.Core.Bool.{Bool, true, false, not, cond}
 use mathlib.Core.List.{List, [], _∷_}
-use Prim.Native.Nat.{ℕ, _+_, _-_, _/_, _%_, _^_}
+use Prim.Native.Nat.{ℕ, _+_, _-_, _/_}
 use lib.Bits.{bitXor}
 use lib.Dec.{ltb, eqb}
 use lib.ListN.{set, replicate}
@@ -15,7 +15,7 @@ use Rattle.sparse_rules.specs.declared.Kind.{Kind}
 use Rattle.sparse_rules.specs.declared.Kind.the-variants.{Raw, Fill, DontCare, Unknown}
 use Rattle.sparse_rules.specs.Header.{headerTests}
 use Rattle.sparse_rules.specs.Chunks.{sizeRight}
-use Rattle.sparse_rules.specs.Cells.{writes}
+use Rattle.sparse_rules.specs.Counts.{writes, countedOn}
 use Rattle.sparse_rules.specs.Judge.{sumStated, sumDiffers}
 use Rattle.sparse_stream_rules.specs.declared.Pass.{Pass}
 use Rattle.sparse_stream_rules.specs.Known.{tested, testedNumber, headerEnds}
@@ -76,7 +76,7 @@ ready x =
     (record {
       next = record { at = headOf x .start; first = x .walk .next .first };
       left = headOf x .chunks;
-      written = x .walk .written;
+      counts = x .walk .counts;
     })
 
 -- where they have
@@ -106,7 +106,7 @@ abbrev pub skipSum : Bool → Header → ℕ → ℕ → ℕ
 skipSum true h n sum = sum
 skipSum false h n sum = sumOn h sum (replicate n 0)
 
--- past the chunk's size and its blocks; the count of blocks written is one of 32 bits
+-- past the chunk's size and its blocks, which are counted
 abbrev pub chunkRead : Pass → Pass
 chunkRead x =
     record {
@@ -116,7 +116,7 @@ chunkRead x =
       walk = record {
         next = record { at = x .walk .next .at + sizeNow x; first = x .walk .next .first + blocksNow x };
         left = x .walk .left - 1;
-        written = (x .walk .written + cond (writes (kindNow x)) (blocksNow x) 0) % 2 ^ 32;
+        counts = countedOn (x .walk .counts) (kindNow x) (blocksNow x);
       };
       kept = x .kept;
     }

@@ -1,5 +1,6 @@
 // Images that arrive in pieces: what is known once their first bytes have come, what each call answers and stores, the
 // state of a pass, and theorems. No code.
+use sparse_rules::Counts;
 use sparse_rules::Cursor;
 use sparse_rules::Refusal;
 
@@ -15,12 +16,12 @@ pub struct Come {
     pub sum: u32,
 }
 
-// The walk over the chunks: where the next one begins, how many are still to be read, and how many blocks those that
-// were read write.
+// The walk over the chunks: where the next one begins, how many are still to be read, and the blocks of those that were read,
+// counted.
 pub struct Walk {
     pub next: Cursor,
     pub left: u32,
-    pub written: u32,
+    pub counts: Counts,
 }
 
 // The bytes that are kept: the known fields of the file header, those of the chunk header that came last, and the word

@@ -1,7 +1,7 @@
 // The checksum's state as the data of chunks come. Where the file header states no checksum, none is worked out.
 ghost use mathlib.Core.Path.{_≡_};
 ghost use mathlib.Core.Bool.{true, false};
-ghost use Rattle.sparse_rules.specs.Cells.{writes};
+ghost use Rattle.sparse_rules.specs.Counts.{writes};
 ghost use Rattle.sparse_rules.specs.Judge.{sumStated};
 ghost use Rattle.sparse_stream_rules.specs.State.{headOf, spanNow};
 ghost use Rattle.sparse_stream_rules.specs.Steps.{sumOn, skipSum, fillSum};

@@ -1,91 +1,86 @@
--- The first walk keeps count: what was counted so far, with what the rest of the walk gives, is the whole walk's answer.
+-- The first walk keeps count: the chunks that it has passed are counted, and the rest of the walk goes on from them.
 -- Assumes nothing.
-use mathlib.Core.Path.{_≡_, refl, sym, ap, ap₂, _∙_}
-use mathlib.Core.Bool.{Bool, true, false, not, cond}
-use mathlib.Core.List.{List}
-use Prim.Native.Nat.{ℕ, _+_, _-_, _≤_, _<_}
+use mathlib.Core.Path.{_≡_, refl, sym, ap, _∙_}
+use mathlib.Core.List.{List, [], _∷_, _++_, append-assoc, append-nil}
+use Prim.Native.Nat.{ℕ, _+_, _-_, _^_, _≤_, _<_}
 use native.Mathlib.Omega.{arith}
 use lib.ListN.{length}
-use borrow.Author.Tests.{lt-ltb, le-ltb}
 use Rattle.sparse_rules.specs.declared.Header.{Header}
 use Rattle.sparse_rules.specs.declared.Cursor.{Cursor}
 use Rattle.sparse_rules.specs.declared.Chunk.{Chunk}
-use Rattle.rules.specs.Answer.{Answer, refused, accepted}
+use Rattle.sparse_rules.specs.declared.Counts.{Counts}
+use Rattle.rules.specs.Answer.{refused, accepted, onward}
 use Rattle.sparse_rules.specs.Chunks.{chunk, reading}
-use Rattle.sparse_rules.specs.Walk.{Finding, more, endTests, walk, origin}
-use Rattle.sparse_rules.specs.Cells.{writes, written, skipped}
-use Rattle.sparse_rules.specs.Answers.{Counts, counts, answerFor}
-use Rattle.sparse_rules.proofs.Walk.{walk-end, walk-refused, walk-read}
+use Rattle.sparse_rules.specs.Walk.{Finding, more, walk, origin}
+use Rattle.sparse_rules.specs.Counts.{countsOf, countedOn}
+use Rattle.sparse_rules.specs.Answers.{answerFor}
+use Rattle.sparse_rules.proofs.Walk.{walk-refused, walk-read, walk-fell-short, walk-left-over, walk-over}
 use Rattle.sparse_rules.proofs.Facts.{chunk-facts}
-use Rattle.sparse_rules.proofs.Cells.{stored-most}
+use Rattle.sparse_rules.proofs.Counting.{blocksIn, blocks-one, counts-none, counted-on}
 
--- the answer that a finding asks for, where so many blocks were written and so many skipped before
-unfoldable pub tally : ℕ → ℕ → Finding → Answer Counts
-tally w q (accepted ks) = counts (w + written ks) (q + skipped ks)
-tally w q (refused n place) = refused n place
+-- a finding, after chunks that came before it
+abbrev pub after : List Chunk → Finding → Finding
+after ks f = onward f (λ ls. accepted (ks ++ ls))
 
--- with none before, it is the finding's own
-tally-none : (f : Finding) → answerFor f ≡ tally 0 0 f
-unfolding answerFor tally
-tally-none (accepted ks) = ap₂ counts (omega arith) (omega arith)
-tally-none (refused n place) = refl
+-- no chunks before it
+after-none : (f : Finding) → f ≡ after [] f
+after-none (accepted ls) = refl
+after-none (refused n place) = refl
 
--- a chunk's blocks are counted before the others'
-tally-more : (w q : ℕ) (k : Chunk) (f : Finding)
-    → tally w q (more k f) ≡ tally (w + cond (writes (k .kind)) (k .blocks) 0) (q + (k .blocks - cond (writes (k .kind)) (k .blocks) 0)) f
-unfolding tally written skipped
-tally-more w q k (refused n place) = refl
-tally-more w q k (accepted ks) = go (writes (k .kind))
-  where
-    go : (x : Bool)
-        → counts (w + (cond x (k .blocks) 0 + written ks)) (q + (cond (not x) (k .blocks) 0 + skipped ks))
-        ≡ counts (w + cond x (k .blocks) 0 + written ks) (q + (k .blocks - cond x (k .blocks) 0) + skipped ks)
-    go true = ap₂ counts (omega arith) (omega arith)
-    go false = ap₂ counts (omega arith) (omega arith)
+-- one chunk more before it
+after-more : (ks : List Chunk) (k : Chunk) (f : Finding) → after ks (more k f) ≡ after (ks ++ (k ∷ [])) f
+after-more ks k (accepted ls) = ap accepted (sym (append-assoc ks (k ∷ []) ls))
+after-more ks k (refused n place) = refl
 
--- a turn of the walk: so many chunks left from a cursor on, so many blocks written and skipped before it
-pub record Tallied (s : List ℕ) (h : Header) (n : ℕ) (c : Cursor) (w q : ℕ) : Type 0 where
-  pub goes : answerFor (walk s (length s) h (h .chunks) (origin h)) ≡ tally w q (walk s (length s) h n c)
-  pub sum : w + q ≡ c .first
+-- a turn of the walk: so many chunks left from a cursor on, and so many blocks counted before it
+pub record Tallied (s : List ℕ) (h : Header) (n : ℕ) (c : Cursor) (t : Counts) : Type 0 where
+  -- the chunks before it
+  pub ks : List Chunk
+  pub goes : walk s (length s) h (h .chunks) (origin h) ≡ after ks (walk s (length s) h n c)
+  pub counts : countsOf ks ≡ t
+  pub sum : blocksIn ks ≡ c .first
 
-pub tally-start : (s : List ℕ) (h : Header) → Tallied s h (h .chunks) (origin h) 0 0
-tally-start s h = record { goes = tally-none (walk s (length s) h (h .chunks) (origin h)); sum = refl }
+pub tally-start : (s : List ℕ) (h : Header) → Tallied s h (h .chunks) (origin h) (record { written = 0; «dont_care» = 0; unknown = 0 })
+tally-start s h = record { ks = []; goes = after-none (walk s (length s) h (h .chunks) (origin h)); counts = counts-none; sum = refl }
 
-module _ (s : List ℕ) (h : Header) (n : ℕ) (c : Cursor) (w q : ℕ) (i : Tallied s h n c w q) where
+module _ (s : List ℕ) (h : Header) (n : ℕ) (c : Cursor) (t : Counts) (i : Tallied s h n c t) where
   -- a chunk that is read
-  pub tally-step : (k : Chunk) (next : Cursor) (x : ℕ) → 0 < n → reading s (length s) h c ≡ chunk k next → x ≡ cond (writes (k .kind)) (k .blocks) 0
-      → Tallied s h (n - 1) next (w + x) (q + (k .blocks - x))
-  tally-step k next x p e m =
+  pub tally-step : (k : Chunk) (next : Cursor) → 0 < n → h .total < 2 ^ 32 → reading s (length s) h c ≡ chunk k next
+      → Tallied s h (n - 1) next (countedOn t (k .kind) (k .blocks))
+  tally-step k next p fits e =
       let f = chunk-facts s (length s) h c k next e in
       record {
-        goes =
-            i .goes
-            ∙ ap (tally w q) (walk-read s (length s) h n c k next p e)
-            ∙ tally-more w q k (walk s (length s) h (n - 1) next)
-            ∙ rw m;
-        sum = omega (arith, i .sum, f .blocks, stored-most k);
+        ks = i .ks ++ (k ∷ []);
+        goes = i .goes ∙ ap (after (i .ks)) (walk-read s (length s) h n c k next p e) ∙ after-more (i .ks) k (walk s (length s) h (n - 1) next);
+        counts = counted-on (i .ks) k (omega (arith, i .sum, f .blocks, f .within)) ∙ ap (λ (x : Counts). countedOn x (k .kind) (k .blocks)) (i .counts);
+        sum = omega (arith, blocks-one (i .ks) k, i .sum, f .blocks);
       }
+
+  -- what the rest of the walk finds, the whole walk answers
+  rest : (f : Finding) → walk s (length s) h n c ≡ f → answerFor (after (i .ks) f) ≡ answerFor (walk s (length s) h (h .chunks) (origin h))
+  rest f e = sym (ap answerFor (i .goes ∙ ap (after (i .ks)) e))
 
   -- a chunk that is refused
   pub tally-refused : (m place : ℕ) → 0 < n → reading s (length s) h c ≡ refused m place
       → refused m place ≡ answerFor (walk s (length s) h (h .chunks) (origin h))
-  unfolding tally
-  tally-refused m place p e = sym (i .goes ∙ ap (tally w q) (walk-refused s (length s) h n c m place p e))
+  unfolding answerFor
+  tally-refused m place p e = rest (refused m place) (walk-refused s (length s) h n c m place p e)
 
   module _ (z : n ≡ 0) where
     -- the sum falls short at the end
     pub tally-short : c .first < h .total → refused 9 (c .at) ≡ answerFor (walk s (length s) h (h .chunks) (origin h))
-    unfolding tally endTests
-    tally-short t = sym (i .goes ∙ ap (tally w q) (walk-end s (length s) h n c z) ∙ rw (lt-ltb _ _ t))
+    unfolding answerFor
+    tally-short p = rest (refused 9 (c .at)) (walk-fell-short s (length s) h n c z p)
 
-    module _ (t : h .total ≤ c .first) where
+    module _ (p : h .total ≤ c .first) where
       -- bytes remain
       pub tally-more-bytes : c .at < length s → refused 10 (c .at) ≡ answerFor (walk s (length s) h (h .chunks) (origin h))
-      unfolding tally endTests
-      tally-more-bytes l = sym (i .goes ∙ ap (tally w q) (walk-end s (length s) h n c z) ∙ rw (le-ltb _ _ t, lt-ltb _ _ l))
+      unfolding answerFor
+      tally-more-bytes l = rest (refused 10 (c .at)) (walk-left-over s (length s) h n c z p l)
 
       -- the structure holds
-      pub tally-done : length s ≤ c .at → counts w q ≡ answerFor (walk s (length s) h (h .chunks) (origin h))
-      unfolding tally endTests written skipped
+      pub tally-done : length s ≤ c .at → accepted t ≡ answerFor (walk s (length s) h (h .chunks) (origin h))
+      unfolding answerFor
       tally-done l =
-          sym (i .goes ∙ ap (tally w q) (walk-end s (length s) h n c z) ∙ rw (le-ltb _ _ t, le-ltb _ _ l) (ap₂ counts (omega arith) (omega arith)))
+          ap accepted (sym (i .counts)) ∙ ap (λ (ls : List Chunk). accepted (countsOf ls)) (sym (append-nil (i .ks)))
+          ∙ rest (accepted []) (walk-over s (length s) h n c z p l)

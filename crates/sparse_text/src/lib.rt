@@ -8,12 +8,13 @@ ghost use Rattle.rules.specs.Answer.{accepted};
 ghost use Rattle.sparse_rules.specs.Judge.{judged};
 ghost use Rattle.sparse_list_rules.specs.Listing.{partition, imageLines, listing};
 use sparse_rules::ChunkRead;
+use sparse_rules::Counts;
 use sparse_rules::Cursor;
 use sparse_rules::Verdict;
 
-// The lines of an image that is accepted with so many blocks written and skipped.
-fn put_image(out: &mut [u8], input: &[u8], written: u32, skipped: u32) -> usize
-    ensures { λ r. ⌜ ((ks : List Chunk) → judged (now (input .entry)) (length (now (input .entry))) partition ≡ accepted ks → Put (now (out .entry)) 0 (imageLines (now (input .entry)) ks written skipped) (now (out .exit)) r) ⌝ }
+// The lines of an image that is accepted with these counts of blocks.
+fn put_image(out: &mut [u8], input: &[u8], counts: Counts) -> usize
+    ensures { λ r. ⌜ ((ks : List Chunk) → judged (now (input .entry)) (length (now (input .entry))) partition ≡ accepted ks → Put (now (out .entry)) 0 (imageLines (now (input .entry)) ks counts) (now (out .exit)) r) ⌝ }
 {
     let header = sparse_read::read_header(input);
     let mut next = sparse_lines::put_header(out, header);
@@ -31,7 +32,7 @@ fn put_image(out: &mut [u8], input: &[u8], written: u32, skipped: u32) -> usize
         cursor = after;
         left = left - 1;
     }
-    sparse_lines::put_last(out, next, written, skipped)
+    sparse_lines::put_last(out, next, counts)
 }
 
 // The text of an input, and the place after it.
@@ -43,7 +44,7 @@ pub fn put_listing(out: &mut [u8], input: &[u8]) -> usize
     }
     let verdict = sparse_judge::judge(input, 1048576);
     match verdict {
-        Verdict::Accepted(written, skipped) => put_image(out, input, written, skipped),
+        Verdict::Accepted(counts) => put_image(out, input, counts),
         Verdict::Refused(refusal) => sparse_lines::put_refused(out, refusal),
     }
 }

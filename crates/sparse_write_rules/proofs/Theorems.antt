@@ -22,10 +22,12 @@ use Rattle.sparse_rules.specs.declared.Kind.the-variants.{Raw, Fill, DontCare, 
 use Rattle.sparse_rules.specs.declared.Chunk.{Chunk}
 use Rattle.crc32_rules.specs.Crc.{crc32}
 use Rattle.sparse_rules.specs.Header.{blockSizeRight, blockSize, statedChecksum}
-use Rattle.sparse_rules.specs.Cells.{tab, rawByte, zeroed, written, skipped}
+use Rattle.sparse_rules.specs.Cells.{tab, rawByte, zeroed}
+use Rattle.sparse_rules.specs.Counts.{written, dontCare, unknown}
 use Rattle.sparse_rules.specs.Judge.{effect}
 use Rattle.sparse_rules.specs.Answers as judge
-use Rattle.sparse_rules.proofs.Cells.{length-tab, zeroed-some, written-nil, written-cons, skipped-nil, skipped-cons}
+use Rattle.sparse_rules.proofs.Cells.{length-tab, zeroed-some}
+use Rattle.sparse_rules.proofs.Counting.{where-nil, where-cons, counts-same}
 use Rattle.sparse_rules.proofs.Image.{answer-counts}
 use Rattle.sparse_store_rules.proofs.Over.{over-front}
 use Rattle.sparse_store_rules.proofs.Cut.{store-cells}
@@ -136,15 +138,17 @@ unfolding blocksFrom
 blocks-stored d b zero at = tt
 blocks-stored d b (suc n) at = (stored-stores (tab (rawByte d at) 0 b) b 0, blocks-stored d b n (at + b))
 
--- chunks of stored blocks only: all blocks are written, none is skipped
-all-written : (s : List ℕ) (ks : List Chunk) → AllRuns Stores (map (runOf s) ks) → (written ks ≡ counted (map (runOf s) ks)) × (skipped ks ≡ 0)
-all-written s [] a = (written-nil, skipped-nil)
+-- chunks of stored blocks only: all blocks are written, none is don't care or unknown
+all-written : (s : List ℕ) (ks : List Chunk) → AllRuns Stores (map (runOf s) ks)
+    → (written ks ≡ counted (map (runOf s) ks)) × (dontCare ks ≡ 0) × (unknown ks ≡ 0)
+all-written s [] a = (where-nil _, where-nil _, where-nil _)
 all-written s (k ∷ ks) a = let on = all-written s ks (a .1) in go (k .kind) refl (a .0) on
   where
-    go : (x : Kind) → k .kind ≡ x → Stores (chunkKind s (k .kind) (k .body)) → (written ks ≡ counted (map (runOf s) ks)) × (skipped ks ≡ 0)
-        → (written (k ∷ ks) ≡ k .blocks + counted (map (runOf s) ks)) × (skipped (k ∷ ks) ≡ 0)
-    go Raw e h on = (written-cons k ks ∙ rw (e, on .0), skipped-cons k ks ∙ rw (e, on .1))
-    go Fill e h on = (written-cons k ks ∙ rw (e, on .0), skipped-cons k ks ∙ rw (e, on .1))
+    go : (x : Kind) → k .kind ≡ x → Stores (chunkKind s (k .kind) (k .body))
+        → (written ks ≡ counted (map (runOf s) ks)) × (dontCare ks ≡ 0) × (unknown ks ≡ 0)
+        → (written (k ∷ ks) ≡ k .blocks + counted (map (runOf s) ks)) × (dontCare (k ∷ ks) ≡ 0) × (unknown (k ∷ ks) ≡ 0)
+    go Raw e h on = (where-cons _ k ks ∙ rw (e, on .0), where-cons _ k ks ∙ rw (e, on .1), where-cons _ k ks ∙ rw (e, on .2))
+    go Fill e h on = (where-cons _ k ks ∙ rw (e, on .0), where-cons _ k ks ∙ rw (e, on .1), where-cons _ k ks ∙ rw (e, on .2))
     go DontCare e h on = absurd (rw e at h)
     go Unknown e h on = absurd (rw e at h)
 
@@ -195,7 +199,7 @@ module _ (d : List ℕ) (b : ℕ) (small : Bytes d) (right : blockSizeRight b �
       let n : counted (map (runOf (encode b (flatBlocks d b))) (e .ks)) ≡ length d / b =
       ap counted (e .chunks-are) ∙ all-blocks b (flatBlocks d b) flat-whole ∙ blocks-all in
       record {
-        answers = answer-counts _ _ (length p) (e .ks) (e .found) ∙ ap₂ judge.counts (c .0 ∙ n) (c .1);
+        answers = answer-counts _ _ (length p) (e .ks) (e .found) ∙ ap accepted (counts-same (c .0 ∙ n) (c .1) (c .2));
         leaves = store-cells _ p (map some d) (e .gives ∙ cells-flat d b (g .1)) ∙ over-front d p h;
       }
 

@@ -84,8 +84,8 @@ pub record Bounded : Type 0 where
 
 -- an image s of flat data d on a partition p: "gives that data again and touches no byte beyond it"
 pub record GivesBack (d : List ℕ) (b : ℕ) (s p : List ℕ) : Type 0 where
-  -- it is accepted, with all blocks written and none skipped
-  pub answers : judge.answer s (length s) (length p) ≡ judge.counts (length d / b) 0
+  -- it is accepted, with all blocks written, none don't care and none unknown
+  pub answers : judge.answer s (length s) (length p) ≡ rules.accepted (record { written = length d / b; «dont_care» = 0; unknown = 0 })
   -- the flat data stand at the start, and every byte beyond them is as before
   pub leaves : store s p ≡ d ++ drop (length d) p
 

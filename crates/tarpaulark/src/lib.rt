@@ -32,9 +32,9 @@ ghost use Rattle.sparse_write_rules.specs.Write as writer;
 ghost use Rattle.tarpaulark_numbers.specs.Numbers.{verdictNumbers, countNumbers, chunkIn, chunkNumbers, headerNumbersBy, layoutNumbers};
 ghost use Rattle.slot_on_bytes.specs.OnBytes.{onBytes, freshBytes, bytesRefusal};
 
-// Judges an image for a partition of so many bytes. Answers place, blocks written, blocks skipped.
+// Judges an image for a partition of so many bytes. Answers place, then blocks written, don't care, unknown.
 #[no_mangle]
-pub extern "C" fn tarpaulark_judge(image: &[u8], partition_len: u64, out: &mut [u64; 3]) -> u32
+pub extern "C" fn tarpaulark_judge(image: &[u8], partition_len: u64, out: &mut [u64; 4]) -> u32
     ensures { λ r. ⌜ (r ≡ numberOf (answer (now (image .entry)) (length (now (image .entry))) «partition_len»))
         × (now (out .exit) ≡ verdictNumbers (answer (now (image .entry)) (length (now (image .entry))) «partition_len»)) ⌝ }
 {
@@ -78,7 +78,7 @@ pub extern "C" fn tarpaulark_chunk(image: &[u8], at: u64, first: u32, out: &mut 
 
 // Stores an image on a partition. Answers as the judge does.
 #[no_mangle]
-pub extern "C" fn tarpaulark_store(image: &[u8], partition: &mut [u8], out: &mut [u64; 3]) -> u32
+pub extern "C" fn tarpaulark_store(image: &[u8], partition: &mut [u8], out: &mut [u64; 4]) -> u32
     ensures { λ r. ⌜ (r ≡ numberOf (answer (now (image .entry)) (length (now (image .entry))) (length (now (partition .entry)))))
         × (now (out .exit) ≡ verdictNumbers (answer (now (image .entry)) (length (now (image .entry))) (length (now (partition .entry)))))
         × (now (partition .exit) ≡ store (now (image .entry)) (now (partition .entry))) ⌝ }
@@ -124,7 +124,7 @@ pub extern "C" fn tarpaulark_write(
 
 // Begins a pass over an image of so many bytes that arrives in pieces, for a partition of so many bytes.
 #[no_mangle]
-pub extern "C" fn tarpaulark_pass_begin(length: u64, partition_len: u64, pass: &mut [u8; 104])
+pub extern "C" fn tarpaulark_pass_begin(length: u64, partition_len: u64, pass: &mut [u8; 112])
     ensures { λ _. ⌜ Held (begun length «partition_len») (now (pass .exit)) ⌝ }
 {
     tarpaulark_passes::begin(length, partition_len, pass);
@@ -133,7 +133,7 @@ pub extern "C" fn tarpaulark_pass_begin(length: u64, partition_len: u64, pass: &
 // A piece for the judging pass. Answers place.
 #[no_mangle]
 pub extern "C" fn tarpaulark_pass_judge_piece(
-    pass: &mut [u8; 104],
+    pass: &mut [u8; 112],
     piece: &[u8],
     out: &mut [u64; 1],
 ) -> u32
@@ -144,7 +144,7 @@ pub extern "C" fn tarpaulark_pass_judge_piece(
 
 // Finishes the judging pass. Answers as the judge does.
 #[no_mangle]
-pub extern "C" fn tarpaulark_pass_judge_finish(pass: &mut [u8; 104], out: &mut [u64; 3]) -> u32
+pub extern "C" fn tarpaulark_pass_judge_finish(pass: &mut [u8; 112], out: &mut [u64; 4]) -> u32
     ensures { λ r. ⌜ HandedAnswer (judgeEnd (passOf (now (pass .entry)))) r (now (out .exit)) (now (pass .exit)) ⌝ }
 {
     tarpaulark_passes::judge_finish(pass, out)
@@ -153,7 +153,7 @@ pub extern "C" fn tarpaulark_pass_judge_finish(pass: &mut [u8; 104], out: &mut [
 // A piece for the storing pass, which is lent the partition. Answers place.
 #[no_mangle]
 pub extern "C" fn tarpaulark_pass_store_piece(
-    pass: &mut [u8; 104],
+    pass: &mut [u8; 112],
     piece: &[u8],
     partition: &mut [u8],
     out: &mut [u64; 1],
@@ -167,9 +167,9 @@ pub extern "C" fn tarpaulark_pass_store_piece(
 // Finishes the storing pass, which is lent the partition once more. Answers as the judge does.
 #[no_mangle]
 pub extern "C" fn tarpaulark_pass_store_finish(
-    pass: &mut [u8; 104],
+    pass: &mut [u8; 112],
     partition: &[u8],
-    out: &mut [u64; 3],
+    out: &mut [u64; 4],
 ) -> u32
     ensures { λ r. ⌜ HandedAnswer (storeEnd (passOf (now (pass .entry))) (length (now (partition .entry)))) r (now (out .exit)) (now (pass .exit)) ⌝ }
 {

@@ -13,24 +13,24 @@ use Rattle.slot_bytes.specs.Record.{flag}
 use Rattle.sparse_rules.specs.declared.Header.{Header}
 use Rattle.sparse_rules.specs.declared.Kind.{Kind}
 use Rattle.sparse_rules.specs.declared.Kind.the-variants.{Raw, Fill, DontCare, Unknown}
+use Rattle.sparse_rules.specs.declared.Counts.{Counts}
 use Rattle.sparse_rules.specs.Header.{headerOf}
 use Rattle.sparse_rules.specs.Chunks.{Reading, reading}
-use Rattle.sparse_rules.specs.Answers.{Counts}
 
 -- an answer's array: place 0 and the values of what is accepted, or the refusal's place and so many zeros
 abbrev pub numbersBy : {A : Type 0} → ℕ → (A → List ℕ) → Answer A → List ℕ
 numbersBy n f (accepted x) = 0 ∷ f x
 numbersBy n f (refused m place) = place ∷ replicate n 0
 
--- a verdict's array: place, "blocks written (raw and fill) and blocks skipped (all other)"
+-- a verdict's array: place, then blocks "written, don't care, unknown"
 abbrev pub verdictNumbers : Answer Counts → List ℕ
-verdictNumbers = numbersBy 2 (λ c. c .written ∷ c .skipped ∷ [])
+verdictNumbers = numbersBy 3 (λ c. c .written ∷ c .«dont_care» ∷ c .unknown ∷ [])
 
 -- the array of the cut form and of the writer: place, and how many blocks are stored or "the image's length"
 abbrev pub countNumbers : Answer ℕ → List ℕ
 countNumbers = numbersBy 1 (λ n. n ∷ [])
 
--- a kind of chunk as a number: raw 0, fill 1, don't care 2, any other type 3
+-- a kind of chunk as a number: raw 0, fill 1, don't care 2, and 3 where its type is not known
 abbrev pub kindNumber : Kind → ℕ
 kindNumber Raw = 0
 kindNumber Fill = 1

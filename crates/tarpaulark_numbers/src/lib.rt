@@ -27,18 +27,18 @@ pub fn verdict_number(v: Verdict) -> u32
     ensures { λ r. ⌜ r ≡ numberOf (answerOf v) ⌝ }
 {
     match v {
-        Verdict::Accepted(_, _) => 0,
+        Verdict::Accepted(_) => 0,
         Verdict::Refused(f) => f.number,
     }
 }
 
-// A verdict's place, blocks written and blocks skipped.
-pub fn verdict_answer(v: Verdict) -> [u64; 3]
+// A verdict's place, and its counts of blocks: written, don't care, unknown.
+pub fn verdict_answer(v: Verdict) -> [u64; 4]
     ensures { λ r. ⌜ r ≡ verdictNumbers (answerOf v) ⌝ }
 {
     match v {
-        Verdict::Accepted(written, skipped) => [0, written as u64, skipped as u64],
-        Verdict::Refused(f) => [f.place, 0, 0],
+        Verdict::Accepted(c) => [0, c.written as u64, c.dont_care as u64, c.unknown as u64],
+        Verdict::Refused(f) => [f.place, 0, 0, 0],
     }
 }
 

@@ -15,7 +15,7 @@ use tarpaulark_numbers::verdict_answer;
 use tarpaulark_numbers::verdict_number;
 
 // Hands over what a call with a piece made of the pass.
-fn hand_over(x: Pass, bytes: &mut [u8; 104], out: &mut [u64; 1]) -> u32
+fn hand_over(x: Pass, bytes: &mut [u8; 112], out: &mut [u64; 1]) -> u32
     ensures { λ r. ⌜ Handed x r (now (out .exit)) (now (bytes .exit)) ⌝ }
 {
     *bytes = pass_bytes(x);
@@ -28,7 +28,7 @@ fn hand_over(x: Pass, bytes: &mut [u8; 104], out: &mut [u64; 1]) -> u32
 }
 
 // Hands over what a call that finishes made of the pass.
-fn hand_over_answer(f: Finished, bytes: &mut [u8; 104], out: &mut [u64; 3]) -> u32
+fn hand_over_answer(f: Finished, bytes: &mut [u8; 112], out: &mut [u64; 4]) -> u32
     requires { ⌜ answerOf (f .verdict) ≡ answerNow (f .pass) ⌝ }
     ensures { λ r. ⌜ HandedAnswer (f .pass) r (now (out .exit)) (now (bytes .exit)) ⌝ }
 {
@@ -40,14 +40,14 @@ fn hand_over_answer(f: Finished, bytes: &mut [u8; 104], out: &mut [u64; 3]) -> u
 }
 
 // Begins a pass over an image of so many bytes, for a partition of so many bytes.
-pub fn begin(length: u64, partition_len: u64, bytes: &mut [u8; 104])
+pub fn begin(length: u64, partition_len: u64, bytes: &mut [u8; 112])
     ensures { λ _. ⌜ Held (begun length «partition_len») (now (bytes .exit)) ⌝ }
 {
     *bytes = pass_bytes(sparse_stream::begin(length as usize, partition_len));
 }
 
 // A piece for the judging pass.
-pub fn judge_piece(bytes: &mut [u8; 104], piece: &[u8], out: &mut [u64; 1]) -> u32
+pub fn judge_piece(bytes: &mut [u8; 112], piece: &[u8], out: &mut [u64; 1]) -> u32
     ensures { λ r. ⌜ Handed (judgeCall (passOf (now (bytes .entry))) (now (piece .entry))) r (now (out .exit)) (now (bytes .exit)) ⌝ }
 {
     let made = sparse_stream::judge_piece(pass_of(*bytes), piece);
@@ -55,7 +55,7 @@ pub fn judge_piece(bytes: &mut [u8; 104], piece: &[u8], out: &mut [u64; 1]) -> u
 }
 
 // Finishes the judging pass.
-pub fn judge_finish(bytes: &mut [u8; 104], out: &mut [u64; 3]) -> u32
+pub fn judge_finish(bytes: &mut [u8; 112], out: &mut [u64; 4]) -> u32
     ensures { λ r. ⌜ HandedAnswer (judgeEnd (passOf (now (bytes .entry)))) r (now (out .exit)) (now (bytes .exit)) ⌝ }
 {
     let made = sparse_stream::judge_finish(pass_of(*bytes));
@@ -64,7 +64,7 @@ pub fn judge_finish(bytes: &mut [u8; 104], out: &mut [u64; 3]) -> u32
 
 // A piece for the storing pass, which is lent the partition.
 pub fn store_piece(
-    bytes: &mut [u8; 104],
+    bytes: &mut [u8; 112],
     piece: &[u8],
     partition: &mut [u8],
     out: &mut [u64; 1],
@@ -77,7 +77,7 @@ pub fn store_piece(
 }
 
 // Finishes the storing pass, which is lent the partition once more.
-pub fn store_finish(bytes: &mut [u8; 104], partition: &[u8], out: &mut [u64; 3]) -> u32
+pub fn store_finish(bytes: &mut [u8; 112], partition: &[u8], out: &mut [u64; 4]) -> u32
     ensures { λ r. ⌜ HandedAnswer (storeEnd (passOf (now (bytes .entry))) (length (now (partition .entry)))) r (now (out .exit)) (now (bytes .exit)) ⌝ }
 {
     let made = sparse_stream::store_finish(pass_of(*bytes), partition);

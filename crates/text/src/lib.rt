@@ -42,3 +42,20 @@ pub fn put_pair(out: &mut [u8], at: usize, word: &[u8], n: u64, second: &[u8], m
     let end = put_labelled(out, next, second, m);
     put(out, end, b"\n")
 }
+
+// Puts three words with a number after each and a newline, and answers the place after the line.
+pub fn put_triple(
+    out: &mut [u8],
+    at: usize,
+    word: &[u8],
+    n: u64,
+    second: &[u8],
+    m: u64,
+    third: &[u8],
+    k: u64,
+) -> usize
+    ensures { λ r. ⌜ Put (now (out .entry)) at (line (labelled (now (word .entry)) n ∷ labelled (now (second .entry)) m ∷ labelled (now (third .entry)) k ∷ [])) (now (out .exit)) r ⌝ }
+{
+    let next = put_labelled(out, at, word, n);
+    put_pair(out, next, second, m, third, k)
+}

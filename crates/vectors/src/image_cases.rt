@@ -27,7 +27,7 @@ pub(crate) fn sparse(rest: &[u8]) -> usize {
     let mut buf = io::large_buffer();
     let taken = build(form, &mut buf);
     let image = part(&buf, 0, fields_read::read32(form, 0) as usize);
-    let mut out = [0u64; 3];
+    let mut out = [0u64; 4];
     let number = tarpaulark::tarpaulark_judge(image, fields_read::read64(rest, 0), &mut out);
     verdict(number, &out);
     past(rest, 8, taken)

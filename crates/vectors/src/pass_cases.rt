@@ -16,7 +16,7 @@ const CALL: usize = 8;
 pub(crate) fn take_call(
     case: &[u8],
     step: &[u8],
-    pass: &mut [u8; 104],
+    pass: &mut [u8; 112],
     partition: &mut [u8],
 ) -> usize {
     let form = fields_read::read16(step, 0);
@@ -37,7 +37,7 @@ pub(crate) fn take_call(
             value(out[0]);
         }
         4 => {
-            let mut out = [0u64; 3];
+            let mut out = [0u64; 4];
             let number = tarpaulark::tarpaulark_pass_judge_finish(pass, &mut out);
             verdict(number, &out);
         }
@@ -47,7 +47,7 @@ pub(crate) fn take_call(
             value(out[0]);
         }
         _ => {
-            let mut out = [0u64; 3];
+            let mut out = [0u64; 4];
             let number = tarpaulark::tarpaulark_pass_store_finish(pass, lent, &mut out);
             verdict(number, &out);
         }

@@ -21,7 +21,7 @@ fn store(case: &[u8], step: &[u8], partition: &mut [u8]) {
     build(form, &mut buf);
     let image = part(&buf, 0, fields_read::read32(form, 0) as usize);
     if fields_read::read32(step, 0) == 0 {
-        let mut out = [0u64; 3];
+        let mut out = [0u64; 4];
         let number = tarpaulark::tarpaulark_store(image, partition, &mut out);
         verdict(number, &out);
         return;
@@ -35,7 +35,7 @@ fn store(case: &[u8], step: &[u8], partition: &mut [u8]) {
 
 // One step: a call of a pass; or an image stored, then a block torn. Prints the answer and the partition's checksum,
 // and answers how many bytes the step takes.
-fn take_step(case: &[u8], step: &[u8], pass: &mut [u8; 104], partition: &mut [u8]) -> usize {
+fn take_step(case: &[u8], step: &[u8], pass: &mut [u8; 112], partition: &mut [u8]) -> usize {
     if 1 < fields_read::read16(step, 0) {
         return take_call(case, step, pass, partition);
     }
@@ -56,7 +56,7 @@ pub(crate) fn case(rest: &[u8]) -> usize {
     let n = least(fields_read::read32(rest, 4) as usize, &buf);
     let partition = &mut buf[..n];
     prepare(partition, (fields_read::read32(rest, 8) % 256) as u8, 7);
-    let mut pass = [0u8; 104];
+    let mut pass = [0u8; 112];
     let mut at = HEAD;
     let mut left = fields_read::read32(rest, 12);
     while 0 < left {

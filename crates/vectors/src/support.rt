@@ -63,12 +63,13 @@ pub(crate) fn value(n: u64) {
     io::print_decimal(STDOUT_FILENO, n);
 }
 
-// Prints the number of a verdict, its place, and the blocks written and skipped.
-pub(crate) fn verdict(number: u32, out: &[u64; 3]) {
+// Prints the number of a verdict, its place, and the blocks written, don't care and unknown.
+pub(crate) fn verdict(number: u32, out: &[u64; 4]) {
     value(number as u64);
     value(out[0]);
     value(out[1]);
     value(out[2]);
+    value(out[3]);
 }
 
 // Builds an image over zeros from its form: length, number of patches, and each patch with its offset.

@@ -1,4 +1,4 @@
--- The worked examples P1 to P14 and the lister's text, computed together: every call of the table gives back what its row says.
+-- The worked examples P1 to P14 and the lister's texts, computed together: every call of the table gives back what its row says.
 -- Assumes nothing.
 use mathlib.Core.Path.{refl}
 use lib.Count.{ones, onesIn}
@@ -13,7 +13,7 @@ use Rattle.sparse_rules.specs.Header.{headerTests}
 use Rattle.sparse_rules.specs.Chunks.{kindOf, sizeRight, chunkTests, chunkAt, reading}
 use Rattle.sparse_rules.specs.Walk.{endTests, walk}
 use Rattle.sparse_rules.specs.Cells.{cellsBy, cellsOf, cells, zeroed, checksumOf}
-use Rattle.sparse_rules.specs.Cells as counted
+use Rattle.sparse_rules.specs.Counts.{blocksWhere}
 use Rattle.sparse_rules.specs.Judge.{sumTests, summed, structure, judged, effectOf, effect}
 use Rattle.sparse_rules.specs.Answers as judge
 use Rattle.sparse_store_rules.specs.Store.{store}
@@ -29,5 +29,5 @@ use Rattle.worked_examples.specs.Calls.{perform}
 use Rattle.worked_examples.specs.Table.{Worked}
 
 pub worked : Worked
-unfolding perform numberAt ones onesIn bit steps byteStep crcFrom crc32 slotsValid valid firstFrom startOf sectionsOf rowOf boot.headTests boot.sectionTests boot.answer headerTests kindOf sizeRight chunkTests chunkAt reading endTests walk cellsBy cellsOf cells zeroed checksumOf counted.written counted.skipped sumTests summed structure judged effectOf effect judge.answerFor judge.answer store blockCells blocksFrom flatBlocks runs allEqual storedKind packed chunkHeader chunk chunks version header image encode write.flatImage write.writeTests write.answer write.output listing listingOf labelled refusedLine headerLine chunkLine chunkLines lastLine digitsUpTo decimal kindWord
+unfolding perform numberAt ones onesIn bit steps byteStep crcFrom crc32 slotsValid valid firstFrom startOf sectionsOf rowOf boot.headTests boot.sectionTests boot.answer headerTests kindOf sizeRight chunkTests chunkAt reading endTests walk cellsBy cellsOf cells zeroed checksumOf blocksWhere sumTests summed structure judged effectOf effect judge.answerFor judge.answer store blockCells blocksFrom flatBlocks runs allEqual storedKind packed chunkHeader chunk chunks version header image encode write.flatImage write.writeTests write.answer write.output listing listingOf labelled refusedLine headerLine chunkLine chunkLines lastLine digitsUpTo decimal kindWord
 worked = refl

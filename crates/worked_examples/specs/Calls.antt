@@ -9,6 +9,7 @@ use Rattle.slot_rules.specs.Operations.{startOf}
 use Rattle.rules.specs.Answer.{Answer}
 use Rattle.boot_rules.specs.declared.Layout.{Layout}
 use Rattle.boot_rules.specs.Tests as boot
+use Rattle.sparse_rules.specs.declared.Counts.{Counts}
 use Rattle.sparse_rules.specs.Answers as judge
 use Rattle.sparse_store_rules.specs.Store as store
 use Rattle.sparse_write_rules.specs.Write as write
@@ -24,7 +25,7 @@ pub data Call : Type 0 where
 
 -- what comes back: the answer, and the contents of what was lent
 pub data Result : Type 0 where
-  stored : Answer judge.Counts → List ℕ → Result
+  stored : Answer Counts → List ℕ → Result
   written : Answer ℕ → List ℕ → Result
   located : Answer Layout → Result
   started : Change → Result

@@ -1,4 +1,4 @@
--- The images, flat bytes and records of the examples, typed from document 01.
+-- The images, flat bytes, records and counts of the examples, typed from documents 01 and 02.
 -- Assumes nothing.
 use mathlib.Core.Bool.{Bool, true, false}
 use mathlib.Core.List.{List, [], _∷_, _++_}
@@ -7,8 +7,10 @@ use lib.ListN.{replicate}
 use Rattle.fields_rules.specs.Number.{bytes}
 use Rattle.slot_rules.specs.declared.Slot.{Slot}
 use Rattle.slot_rules.specs.declared.Record.{Record}
+use Rattle.rules.specs.Answer.{Answer, accepted}
 use Rattle.boot_rules.specs.declared.Section.{Section}
 use Rattle.boot_rules.specs.declared.Layout.{Layout}
+use Rattle.sparse_rules.specs.declared.Counts.{Counts}
 
 -- P1: "`3A FF 26 ED 01 00 00 00 1C 00 0C 00 00 10 00 00` and twelve zero bytes"
 abbrev pub emptyImage : List ℕ
@@ -34,6 +36,14 @@ twoChunks total second sum =
 -- P2
 abbrev pub p2 : List ℕ
 p2 = twoChunks 3 0xCAC3 0xFFFFFFFF
+
+-- P7: "P2 with its second type 0xCAC5"
+abbrev pub p7 : List ℕ
+p7 = twoChunks 3 0xCAC5 0xFFFFFFFF
+
+-- accepted with so many blocks written, don't care and unknown
+abbrev pub counts : ℕ → ℕ → ℕ → Answer Counts
+counts w d u = accepted (record { written = w; «dont_care» = d; unknown = u })
 
 -- a partition or an output of so many bytes that are told apart: 1, 2, 3 and so on
 abbrev pub upFrom : ℕ → ℕ → List ℕ

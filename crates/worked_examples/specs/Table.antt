@@ -3,21 +3,25 @@
 use mathlib.Core.Path.{_≡_}
 use mathlib.Core.Bool.{true, false}
 use mathlib.Core.List.{List, [], _∷_, _++_, map}
+use Prim.Native.Nat.{ℕ}
 use lib.ListN.{replicate}
 use Rattle.rules.specs.Answer.{accepted, refused}
 use Rattle.slot_rules.specs.Answers as slots
-use Rattle.sparse_rules.specs.Answers.{counts}
 use Rattle.text_rules.specs.Words.{ascii}
 use Rattle.worked_examples.specs.Calls.{Row, perform, stores, writes, locates, starts, lists, stored, written, located, started, listed}
-use Rattle.worked_examples.specs.Images.{emptyImage, twoChunks, p2, upFrom, flat, flatImage, boot3, boot2, section, none, layout, slot, two}
+use Rattle.worked_examples.specs.Images.{emptyImage, twoChunks, p2, p7, counts, upFrom, flat, flatImage, boot3, boot2, section, none, layout, slot, two}
 
 -- P1: "writing 0 bytes at block size 4,096"
 abbrev pub row1 : Row
 row1 = record { call = writes [] 4096 (replicate 28 7); result = written (accepted 28) emptyImage }
 
 -- P2: "On 12 bytes it stores the first 4 and keeps 8"
+abbrev pub p2Leaves : List ℕ
+p2Leaves = replicate 4 0xFF ++ upFrom 5 8
+
+-- P2, with request 3 of document 02: "written 1 skipped 2 unknown 0"
 abbrev pub row2 : Row
-row2 = record { call = stores p2 (upFrom 1 12); result = stored (counts 1 2) (replicate 4 0xFF ++ upFrom 5 8) }
+row2 = record { call = stores p2 (upFrom 1 12); result = stored (counts 1 2 0) p2Leaves }
 
 -- P3: "P2 on 11 bytes: 6"
 abbrev pub row3 : Row
@@ -35,9 +39,9 @@ row5 = record { call = stores (twoChunks 2 0xCAC3 0xFFFFFFFF) (upFrom 1 16); res
 abbrev pub row6 : Row
 row6 = record { call = stores (p2 ++ (0 ∷ [])) (upFrom 1 12); result = stored (refused 10 56) (upFrom 1 12) }
 
--- P7: "P2 with its second type 0xCAC5: as P2"
+-- P7: "P2 with its second type 0xCAC5", as request 3 of document 02 has it: "But for these counts P7 stays as P2"
 abbrev pub row7 : Row
-row7 = record { call = stores (twoChunks 3 0xCAC5 0xFFFFFFFF) (upFrom 1 12); result = row2 .result }
+row7 = record { call = stores p7 (upFrom 1 12); result = stored (counts 1 0 2) p2Leaves }
 
 -- P8, "P2 with checksum 0", as request 2 of document 02 has it: "an acceptance equal to P2"
 abbrev pub row8 : Row
@@ -99,18 +103,26 @@ row14 =
       result = started (slots.change (slots.starts 0) (two 0 (slot false false 0) (slot false false 3)));
     }
 
--- the lister: "For P2 it prints exactly"
+-- the lister: "For P2 it prints exactly", and as request 3 has its last line
 abbrev pub rowListed : Row
 rowListed =
     record {
       call = lists p2;
-      result = listed (ascii "block 4 total 3 chunks 2\n0 fill 1\n1 skip 2\nok written 1 skipped 2\n");
+      result = listed (ascii "block 4 total 3 chunks 2\n0 fill 1\n1 skip 2\nok written 1 skipped 2 unknown 0\n");
     }
 
--- P1 to P14, and the lister's text
+-- and for P7: "`unknown` in place of `skip`", and its own last line
+abbrev pub rowListedUnknown : Row
+rowListedUnknown =
+    record {
+      call = lists p7;
+      result = listed (ascii "block 4 total 3 chunks 2\n0 fill 1\n1 unknown 2\nok written 1 skipped 0 unknown 2\n");
+    }
+
+-- P1 to P14, and the lister's texts
 abbrev pub table : List Row
 table =
-    row1 ∷ row2 ∷ row3 ∷ row4 ∷ row5 ∷ row6 ∷ row7 ∷ row8 ∷ row8One ∷ row9 ∷ row9Short ∷ row10 ∷ row10Short ∷ row11 ∷ row12 ∷ row13 ∷ row14 ∷ rowListed ∷ []
+    row1 ∷ row2 ∷ row3 ∷ row4 ∷ row5 ∷ row6 ∷ row7 ∷ row8 ∷ row8One ∷ row9 ∷ row9Short ∷ row10 ∷ row10Short ∷ row11 ∷ row12 ∷ row13 ∷ row14 ∷ rowListed ∷ rowListedUnknown ∷ []
 
 -- every call of the table gives back what its row says
 abbrev pub Worked : Type 0

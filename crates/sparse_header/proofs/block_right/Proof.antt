@@ -1,4 +1,4 @@
--- `sparse::file_header::block_right` meets its contract.
+-- `sparse_header::block_right` meets its contract.
 -- Assumes nothing.
 use mathlib.Core.Path.{refl}
 use Rattle.sparse_header.proofs.block_right.Statement.{statement}

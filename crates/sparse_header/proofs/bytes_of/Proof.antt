@@ -1,4 +1,4 @@
--- `sparse::extent::bytes_of` meets its contract: the product of two numbers of 32 bits fits 64 bits.
+-- `sparse_header::bytes_of` meets its contract: the product of two numbers of 32 bits fits 64 bits.
 -- Assumes nothing.
 use native.Mathlib.Omega.{arith}
 use borrow.Author.Needs.{needs}

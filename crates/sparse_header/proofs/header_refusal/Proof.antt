@@ -1,4 +1,4 @@
--- `sparse::file_header::header_refusal` meets its contract: a law for each exit, and what the tests before it left.
+-- `sparse_header::header_refusal` meets its contract: a law for each exit, and what the tests before it left.
 -- Assumes nothing.
 use mathlib.Core.List.{List}
 use mathlib.Core.Bool.{Bool, _&&_}

@@ -1,4 +1,4 @@
--- `sparse::file_header::read_header` meets its contract.
+-- `sparse_header::read_header` meets its contract.
 -- Assumes nothing.
 use mathlib.Core.Path.{_∙_}
 use borrow.Author.Needs.{needs}

@@ -1,4 +1,4 @@
--- `sparse::file_header::sizes_right` meets its contract.
+-- `sparse_header::sizes_right` meets its contract.
 -- Assumes nothing.
 use borrow.Author.Needs.{needs}
 use Rattle.sparse_header.proofs.sizes_right.Statement.{statement}

@@ -1,4 +1,4 @@
--- `sparse::reader::kind_of` meets its contract.
+-- `sparse_kind::kind_of` meets its contract.
 -- Assumes nothing.
 use borrow.Author.Tests.{eq-eqb, ne-eqb}
 use Rattle.sparse_rules.specs.Chunks.{kindOf}

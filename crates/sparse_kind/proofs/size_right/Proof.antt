@@ -1,4 +1,4 @@
--- `sparse::reader::size_right` meets its contract: the sum fits 64 bits at every header.
+-- `sparse_kind::size_right` meets its contract: the sum fits 64 bits at every header.
 -- Assumes nothing.
 use native.Mathlib.Omega.{arith}
 use borrow.Author.Needs.{needs}

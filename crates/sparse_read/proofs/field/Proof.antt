@@ -1,4 +1,4 @@
--- `sparse::reader::field` meets its contract: past the end every field is 0.
+-- `sparse_read::field` meets its contract: past the end every field is 0.
 -- Assumes nothing.
 use mathlib.Core.Path.{sym}
 use Prim.Native.Nat.{_+_}

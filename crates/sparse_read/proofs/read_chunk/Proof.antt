@@ -1,4 +1,4 @@
--- `sparse::reader::read_chunk` meets its contract: a law for each exit, by what was read in place of the fields.
+-- `sparse_read::read_chunk` meets its contract: a law for each exit, by what was read in place of the fields.
 -- Assumes nothing.
 use mathlib.Core.Path.{_≡_, sym, ap, _∙_}
 use mathlib.Core.Bool.{Bool}

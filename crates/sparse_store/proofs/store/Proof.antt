@@ -28,9 +28,10 @@ cast-store-blocks c = search needs
 
 store-blocks-requires : tie.Need-store-blocks-requires
 store-blocks-requires c κs =
-    let a = c .before .before .before .before .before .before .before .args in
-    let g = c .before .before .found .given in
-    storable (a .image .now) (a .partition .now) (g .0 .0) (g .0 .1 .0) (says-same answerOf (g .1) (c .before .before .before .before .judge .ensures)) (g .0 .0) (omega arith)
+    let v = c .before .before .before in
+    let a = v .before .before .before .before .before .args in
+    let g = v .found .given in
+    storable (a .image .now) (a .partition .now) (g .0 .0) (says-same answerOf (g .1) (v .before .before .judge .ensures)) (g .0 .0 .written) (omega arith)
 
 enum-told-2 : tie.Need-enum-told-2
 enum-told-2 c = search needs
@@ -44,11 +45,11 @@ same-length c = search needs
 returns-2 : tie.Need-returns-2
 returns-2 c =
     let before = c .before .before .before .before in
-    let v = before .before .before .before in
+    let v = before .before .before .before .before in
     let a = v .before .before .before .before .before .args in
     let g = v .found .given in
     let e = says-same answerOf (g .1) (v .before .before .judge .ensures) in
-    (e, before .store-blocks .ensures .1 ∙ stored-whole (a .image .now) (a .partition .now) (g .0 .0) (g .0 .1 .0) e)
+    (e, before .store-blocks .ensures .1 ∙ stored-whole (a .image .now) (a .partition .now) (g .0 .0) e)
 
 same-length-2 : tie.Need-same-length-2
 same-length-2 c = search needs

@@ -26,10 +26,10 @@ least-requires c κs = search needs
 
 store-blocks-requires : tie.Need-store-blocks-requires
 store-blocks-requires c κs =
-    let v = c .before .before .before in
+    let v = c .before .before .before .before in
     let a = v .before .before .before .before .before .args in
     let g = v .verdict .given in
-    storable (a .image .now) (a .partition .now) (g .0 .0) (g .0 .1 .0) (says-same answerOf (g .1) (v .before .before .judge .ensures)) (c .before .least .result)
+    storable (a .image .now) (a .partition .now) (g .0 .0) (says-same answerOf (g .1) (v .before .before .judge .ensures)) (c .before .least .result)
     (omega (arith, c .before .least .ensures))
 
 enum-known-verdict-2 : tie.Need-enum-known-verdict-2
@@ -43,13 +43,13 @@ returns c =
     let blocks = c .before .before .store-blocks .ensures in
     let l = c .before .before .before .before in
     let count = l .least .ensures in
-    let v = l .before .before in
+    let v = l .before .before .before in
     let a = v .before .before .before .before .before .args in
     let g = v .verdict .given in
     let e = says-same answerOf (g .1) (v .before .before .judge .ensures) in (
-      ap cutAnswerOf (blocks .0) ∙ ap accepted count ∙ answered-least (a .image .now) (a .partition .now) (g .0 .0) (g .0 .1 .0) e (a .limit),
+      ap cutAnswerOf (blocks .0) ∙ ap accepted count ∙ answered-least (a .image .now) (a .partition .now) (g .0 .0) e (a .limit),
       blocks .1 ∙ ap (λ (n : ℕ). storeUpTo n (a .image .now) (a .partition .now)) count
-          ∙ stored-least (a .image .now) (a .partition .now) (g .0 .0) (g .0 .1 .0) e (a .limit),
+          ∙ stored-least (a .image .now) (a .partition .now) (g .0 .0) e (a .limit),
     )
 
 returns-2 : tie.Need-returns-2

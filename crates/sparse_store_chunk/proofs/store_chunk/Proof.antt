@@ -4,7 +4,7 @@ use mathlib.Core.Path.{ap}
 use Prim.Native.Nat.{_+_, _-_}
 use native.Mathlib.Omega.{arith}
 use borrow.Author.Needs.{needs}
-use Rattle.sparse_rules.specs.Cells.{writes}
+use Rattle.sparse_rules.specs.Counts.{writes}
 use Rattle.sparse_store_chunk.proofs.Lending.{stored-raw, stored-fill, stored-past, stored-none}
 use Rattle.sparse_store_chunk.proofs.store_chunk.Statement.{statement}
 use Rattle.sparse_store_chunk.proofs.store_chunk.Tie as tie

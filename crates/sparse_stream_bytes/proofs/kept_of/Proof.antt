@@ -57,7 +57,7 @@ returns c =
     let chunk = word .before .before .before .before .before in
     let file = chunk .before .before .before .before .before in
     let a = file .before .before .before .before .args in
-    let long : length (a .t1) ≡ 104 = search needs in
+    let long : length (a .t1) ≡ 112 = search needs in
     kept-read (a .t1) long (file .copy .ensures) (chunk .copy2 .ensures) (word .copy3 .ensures)
 
 pub kept-of-spec : {M : Type 1} → statement M

@@ -27,10 +27,27 @@ slice-aggregate-read32-3 c = search needs
 read32-requires-3 : tie.Need-read32-requires-3
 read32-requires-3 c κs = search needs
 
+slice-aggregate-read32-4 : tie.Need-slice-aggregate-read32-4
+slice-aggregate-read32-4 c = search needs
+
+read32-requires-4 : tie.Need-read32-requires-4
+read32-requires-4 c κs = search needs
+
+slice-aggregate-read32-5 : tie.Need-slice-aggregate-read32-5
+slice-aggregate-read32-5 c = search needs
+
+read32-requires-5 : tie.Need-read32-requires-5
+read32-requires-5 c κs = search needs
+
 returns : tie.Need-returns
 returns c =
+    let dont-care = c .before .before in
+    let written = dont-care .before .before in
+    let left = written .before .before in
+    let first = left .before .before in
+    let at = first .before .before in
     rw
-    (c .before .before .before .before .before .before .read64 .ensures, c .before .before .before .before .read32 .ensures, c .before .before .read322 .ensures, c .read323 .ensures)
+    (at .read64 .ensures, first .read32 .ensures, left .read322 .ensures, written .read323 .ensures, dont-care .read324 .ensures, c .read325 .ensures)
 
 pub walk-of-spec : {M : Type 1} → statement M
 walk-of-spec =
@@ -44,4 +61,8 @@ walk-of-spec =
     read32-requires-2
     slice-aggregate-read32-3
     read32-requires-3
+    slice-aggregate-read32-4
+    read32-requires-4
+    slice-aggregate-read32-5
+    read32-requires-5
     returns)

@@ -1,36 +1,26 @@
--- `sparse_structure::structure` meets its contract. The loop's invariant: what is counted, with the rest of the walk, gives the whole answer.
+-- `sparse_structure::structure` meets its contract. The loop's invariant: the chunks that were passed are counted, and the rest of the walk follows them.
 -- The measure is the number of chunks left. Assumes nothing.
 use mathlib.Core.Path.{_≡_, sym, ap, _∙_}
-use Prim.Native.Nat.{_+_, _≤_}
 use native.Mathlib.Omega.{arith}
 use lib.ListN.{length}
 use borrow.Author.Needs.{needs}
 use Rattle.sparse_rules.specs.Chunks.{chunk, reading}
 use Rattle.sparse_rules.specs.Answers.{readingOf}
-use Rattle.sparse_rules.proofs.Facts.{chunk-facts}
-use Rattle.sparse_rules.proofs.Cells.{stored-most}
 use Rattle.sparse_structure.proofs.Tally.{Tallied, tally-start, tally-step, tally-refused, tally-short, tally-more-bytes, tally-done}
 use Rattle.sparse_structure.proofs.structure.Statement.{statement}
 use Rattle.sparse_structure.proofs.structure.Tie as tie
 
 abbrev Inv-loop : tie.InvT-loop
-Inv-loop image header cursor₀ left₀ written₀ skipped₀ cursor left written skipped = Tallied image header left cursor written skipped
+Inv-loop image header cursor₀ left₀ counts₀ cursor left counts = Tallied image header left cursor counts
 
 abbrev μ-loop : tie.MeasureT-loop
-μ-loop image header cursor₀ left₀ written₀ skipped₀ cursor left written skipped = left
+μ-loop image header cursor₀ left₀ counts₀ cursor left counts = left
 
 -- the chunk of this turn is the one that is read at the cursor
 read : (c : tie.After-r Inv-loop μ-loop)
     → reading (c .before .before .before .before .before .before .before .args .image .now) (length (c .before .before .before .before .before .before .before .args .image .now)) (c .before .before .before .before .before .before .before .args .header) (c .before .before .before .before .loop .cursor)
     ≡ chunk (c .r .given .0 .0) (c .r .given .0 .1 .0)
 read c = sym (c .before .before .read-chunk .ensures) ∙ ap readingOf (c .r .given .1)
-
--- and with it no more blocks are counted than the header's total
-room : (c : tie.After-r Inv-loop μ-loop)
-    → c .before .before .before .before .loop .written + c .before .before .before .before .loop .skipped + c .r .given .0 .0 .blocks ≤ c .before .before .before .before .before .before .before .args .header .total
-room c =
-    let f = chunk-facts _ _ _ _ _ _ (read c) in
-    omega (arith, c .before .before .before .before .loop .inv .sum, f .blocks, f .within)
 
 cast-if2 : tie.Need-cast-if2 Inv-loop μ-loop
 cast-if2 c = search needs
@@ -56,28 +46,10 @@ returns c =
     let a = c .before .before .before .before .before .before .before .before .args in
     let g = c .before .enum-told .given in
     rw (c .refusal-of .ensures, g .1)
-    (tally-refused (a .image .now) (a .header) (l .left) (l .cursor) (l .written) (l .skipped) (l .inv) (g .0 .0 .number) (g .0 .0 .place) (c .before .before .before .before .loop-test .taken) (sym (c .before .before .before .read-chunk .ensures) ∙ ap readingOf (g .1)))
+    (tally-refused (a .image .now) (a .header) (l .left) (l .cursor) (l .counts) (l .inv) (g .0 .0 .number) (g .0 .0 .place) (c .before .before .before .before .loop-test .taken) (sym (c .before .before .before .read-chunk .ensures) ∙ ap readingOf (g .1)))
 
-blocks-written-requires : tie.Need-blocks-written-requires Inv-loop μ-loop
-blocks-written-requires c κs = search needs
-
-add-written : tie.Need-add-written Inv-loop μ-loop
-add-written c =
-    let r = c .before .before in
-    let k = r .r .given .0 .0 in
-    omega (arith, room r, c .blocks-written .ensures, stored-most k)
-
-sub-skipped : tie.Need-sub-skipped Inv-loop μ-loop
-sub-skipped c =
-    let r = c .before .before .before in
-    let k = r .r .given .0 .0 in
-    omega (arith, c .before .blocks-written .ensures, stored-most k)
-
-add-skipped : tie.Need-add-skipped Inv-loop μ-loop
-add-skipped c =
-    let r = c .before .before .before in
-    let k = r .r .given .0 .0 in
-    omega (arith, room r, c .before .blocks-written .ensures, stored-most k)
+count-on-requires : tie.Need-count-on-requires Inv-loop μ-loop
+count-on-requires c κs = search needs
 
 sub-left : tie.Need-sub-left Inv-loop μ-loop
 sub-left c = omega arith
@@ -87,13 +59,11 @@ loop-less c = omega arith
 
 loop-again : tie.Need-loop-again Inv-loop μ-loop
 loop-again c =
-    let r = c .before .before .before in
+    let r = c .before .before in
     let l = r .before .before .before .before .loop in
     let a = r .before .before .before .before .before .before .before .args in
-    let k = r .r .given .0 .0 in
-    tally-step (a .image .now) (a .header) (l .left) (l .cursor) (l .written) (l .skipped) (l .inv) k (r .r .given .0 .1 .0)
-    (c .before .blocks-written .result) (r .before .before .before .loop-test .taken) (read r)
-    (c .before .blocks-written .ensures)
+    rw (c .count-on .ensures)
+    (tally-step (a .image .now) (a .header) (l .left) (l .cursor) (l .counts) (l .inv) (r .r .given .0 .0) (r .r .given .0 .1 .0) (r .before .before .before .loop-test .taken) (search needs) (read r))
 
 refuse-requires : tie.Need-refuse-requires Inv-loop μ-loop
 refuse-requires c κs = search needs
@@ -103,7 +73,7 @@ returns-2 c =
     let l = c .before .before .before .before .before .loop in
     let a = c .before .before .before .before .before .before .before .before .args in
     rw (c .refuse .ensures)
-    (tally-short (a .image .now) (a .header) (l .left) (l .cursor) (l .written) (l .skipped) (l .inv) (omega arith) (c .before .if1 .taken))
+    (tally-short (a .image .now) (a .header) (l .left) (l .cursor) (l .counts) (l .inv) (omega arith) (c .before .if1 .taken))
 
 refuse-requires-2 : tie.Need-refuse-requires-2 Inv-loop μ-loop
 refuse-requires-2 c κs = search needs
@@ -113,13 +83,13 @@ returns-3 c =
     let l = c .before .before .before .before .before .before .before .loop in
     let a = c .before .before .before .before .before .before .before .before .before .before .args in
     rw (c .refuse2 .ensures)
-    (tally-more-bytes (a .image .now) (a .header) (l .left) (l .cursor) (l .written) (l .skipped) (l .inv) (omega arith) (c .before .before .before .if1 .left) (c .before .if2 .taken))
+    (tally-more-bytes (a .image .now) (a .header) (l .left) (l .cursor) (l .counts) (l .inv) (omega arith) (c .before .before .before .if1 .left) (c .before .if2 .taken))
 
 returns-4 : tie.Need-returns-4 Inv-loop μ-loop
 returns-4 c =
     let l = c .before .before .before .before .before .before .loop in
     let a = c .before .before .before .before .before .before .before .before .before .args in
-    tally-done (a .image .now) (a .header) (l .left) (l .cursor) (l .written) (l .skipped) (l .inv) (omega arith)
+    tally-done (a .image .now) (a .header) (l .left) (l .cursor) (l .counts) (l .inv) (omega arith)
     (c .before .before .if1 .left) (c .if2 .left)
 
 pub structure-spec : {M : Type 1} → statement M
@@ -135,10 +105,7 @@ structure-spec =
     enum-told
     refusal-of-requires
     returns
-    blocks-written-requires
-    add-written
-    sub-skipped
-    add-skipped
+    count-on-requires
     sub-left
     loop-less
     loop-again

@@ -9,10 +9,10 @@ use Rattle.sparse_text.proofs.put_image.Statement.{statement}
 use Rattle.sparse_text.proofs.put_image.Tie as tie
 
 abbrev Inv-loop : tie.InvT-loop
-Inv-loop out₀ input written skipped header next₀ cursor₀ left₀ out next cursor left = Going input header written skipped out₀ next₀ out cursor left next
+Inv-loop out₀ input counts header next₀ cursor₀ left₀ out next cursor left = Going input header counts out₀ next₀ out cursor left next
 
 abbrev μ-loop : tie.MeasureT-loop
-μ-loop out₀ input written skipped header next₀ cursor₀ left₀ out next cursor left = left
+μ-loop out₀ input counts header next₀ cursor₀ left₀ out next cursor left = left
 
 read-header-requires : tie.Need-read-header-requires Inv-loop μ-loop
 read-header-requires c κs = search needs
@@ -20,11 +20,11 @@ read-header-requires c κs = search needs
 put-header-requires : tie.Need-put-header-requires Inv-loop μ-loop
 put-header-requires c κs = search needs
 
-cast-t14 : tie.Need-cast-t14 Inv-loop μ-loop
-cast-t14 c = search needs
+cast-t13 : tie.Need-cast-t13 Inv-loop μ-loop
+cast-t13 c = search needs
 
 loop-holds : tie.Need-loop-holds Inv-loop μ-loop
-loop-holds c = going-start _ _ _ _ (omega arith) (c .before .before .before .before .before .read-header .ensures) (c .before .before .before .put-header .ensures)
+loop-holds c = going-start _ _ _ (omega arith) (c .before .before .before .before .before .read-header .ensures) (c .before .before .before .put-header .ensures)
 
 read-chunk-requires : tie.Need-read-chunk-requires Inv-loop μ-loop
 read-chunk-requires c κs = search needs
@@ -51,7 +51,7 @@ returns c =
     let h = c .before .before .before .before .before .before .before .before .before .before .before .before .before .before .before .read-header .result in
     let p = c .before .before .before .before .before .before .before .before .before .before .before .before .before .put-header in
     let g = c .before .before .before .before .before .enum-told .given in
-    λ ks e. absurd (going-refused (a .input .now) h (a .written) (a .skipped) (p .last .0) (p .result) (l .out) (l .cursor) (l .left) (l .next) (l .inv) (g .0 .0 .number) (g .0 .0 .place) (c .before .before .before .before .before .before .before .before .loop-test .taken) (sym (c .before .before .before .before .before .before .before .read-chunk .ensures) ∙ ap readingOf (g .1)) ks e)
+    λ ks e. absurd (going-refused (a .input .now) h (a .counts) (p .last .0) (p .result) (l .out) (l .cursor) (l .left) (l .next) (l .inv) (g .0 .0 .number) (g .0 .0 .place) (c .before .before .before .before .before .before .before .before .loop-test .taken) (sym (c .before .before .before .before .before .before .before .read-chunk .ensures) ∙ ap readingOf (g .1)) ks e)
 
 put-chunk-requires : tie.Need-put-chunk-requires Inv-loop μ-loop
 put-chunk-requires c κs = search needs
@@ -69,7 +69,7 @@ loop-again c =
     let h = c .before .before .before .before .before .before .before .before .before .before .before .before .before .before .before .read-header .result in
     let p = c .before .before .before .before .before .before .before .before .before .before .before .before .before .put-header in
     let r = c .before .before .before .before .before .r .given in
-    going-step (a .input .now) h (a .written) (a .skipped) (p .last .0) (p .result) (l .out) (l .cursor) (l .left) (l .next) (l .inv) (r .0 .0) (r .0 .1 .0) (c .before .before .before .before .before .before .before .before .loop-test .taken) (sym (c .before .before .before .before .before .before .before .read-chunk .ensures) ∙ ap readingOf (r .1)) (c .before .before .put-chunk .ensures)
+    going-step (a .input .now) h (a .counts) (p .last .0) (p .result) (l .out) (l .cursor) (l .left) (l .next) (l .inv) (r .0 .0) (r .0 .1 .0) (c .before .before .before .before .before .before .before .before .loop-test .taken) (sym (c .before .before .before .before .before .before .before .read-chunk .ensures) ∙ ap readingOf (r .1)) (c .before .before .put-chunk .ensures)
 
 put-last-requires : tie.Need-put-last-requires Inv-loop μ-loop
 put-last-requires c κs = search needs
@@ -83,7 +83,7 @@ returns-2 c =
     let a = c .before .before .before .before .before .before .before .before .before .before .before .before .before .before .args in
     let h = c .before .before .before .before .before .before .before .before .before .before .before .read-header in
     let p = c .before .before .before .before .before .before .before .before .before .put-header in
-    going-done (a .input .now) (h .result) (a .written) (a .skipped) (p .last .0) (p .result) (l .out) (l .cursor) (l .left) (l .next) (l .inv) (omega arith) (h .ensures) (p .ensures) (omega arith) (c .before .before .put-last .ensures)
+    going-done (a .input .now) (h .result) (a .counts) (p .last .0) (p .result) (l .out) (l .cursor) (l .left) (l .next) (l .inv) (omega arith) (h .ensures) (p .ensures) (omega arith) (c .before .before .put-last .ensures)
 
 pub put-image-spec : {M : Type 1} → statement M
 put-image-spec =
@@ -93,7 +93,7 @@ put-image-spec =
     μ-loop
     read-header-requires
     put-header-requires
-    cast-t14
+    cast-t13
     loop-holds
     read-chunk-requires
     enum-known-r

@@ -42,7 +42,7 @@ same-length-2 c = search needs
 returns-2 : tie.Need-returns-2
 returns-2 c =
     let g = c .before .before .before .before .before .verdict .given in
-    let t = listing-accepted _ (c .before .before .before .before .before .before .before .before .if1 .left) (g .0 .0) (g .0 .1 .0) (sym (ap answerOf (g .1)) ∙ c .before .before .before .before .before .before .before .judge .ensures) in
+    let t = listing-accepted _ (c .before .before .before .before .before .before .before .before .if1 .left) (g .0 .0) (sym (ap answerOf (g .1)) ∙ c .before .before .before .before .before .before .before .judge .ensures) in
     rw (t .2) (c .before .before .put-image .ensures (t .0) (t .1))
 
 same-length-3 : tie.Need-same-length-3

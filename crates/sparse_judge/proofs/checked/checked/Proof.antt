@@ -14,16 +14,16 @@ use Rattle.sparse_judge.proofs.checked.checked.Statement.{statement}
 use Rattle.sparse_judge.proofs.checked.checked.Tie as tie
 
 abbrev Inv-loop : tie.InvT-loop
-Inv-loop image header written skipped cursor₀ left₀ sum₀ cursor left sum = Turn image header left cursor sum
+Inv-loop image header counts cursor₀ left₀ sum₀ cursor left sum = Turn image header left cursor sum
 
 abbrev μ-loop : tie.MeasureT-loop
-μ-loop image header written skipped cursor₀ left₀ sum₀ cursor left sum = left
+μ-loop image header counts cursor₀ left₀ sum₀ cursor left sum = left
 
 -- no checksum is stated
 returns : tie.Need-returns Inv-loop μ-loop
 returns c = λ ks e.
     let h = c .before .before .before in
-    none-is-stated (h .args .image .now) (h .args .header) ks (h .pre .0) (h .args .written) (h .args .skipped) (c .if1 .taken)
+    none-is-stated (h .args .image .now) (h .args .header) ks (h .pre .0) (h .args .counts) (c .if1 .taken)
 
 -- the chunk of this turn is the one that is read at the cursor
 read : (c : tie.After-r Inv-loop μ-loop)
@@ -31,8 +31,8 @@ read : (c : tie.After-r Inv-loop μ-loop)
     ≡ chunk (c .r .given .0 .0) (c .r .given .0 .1 .0)
 read c = sym (c .before .before .read-chunk .ensures) ∙ ap readingOf (c .r .given .1)
 
-cast-t12 : tie.Need-cast-t12 Inv-loop μ-loop
-cast-t12 c = search needs
+cast-t11 : tie.Need-cast-t11 Inv-loop μ-loop
+cast-t11 c = search needs
 
 start-requires : tie.Need-start-requires Inv-loop μ-loop
 start-requires c κs = search needs
@@ -100,7 +100,7 @@ returns-3 c = λ ks e.
     let l = c .before .before .before .before .before .before .loop in
     let h = c .before .before .before .before .before .before .before .before .before .before .before .before in
     rw (c .refuse .ensures)
-    (summing-differs (h .args .image .now) (h .args .header) (l .left) (l .cursor) (stateOf (l .sum)) (l .inv .goes) (omega arith) (c .before .before .before .finish .result) (rw (c .before .before .before .before .settled .ensures) at (c .before .before .before .finish .ensures)) ks e (h .pre .0) (h .args .written) (h .args .skipped) (c .before .before .before .before .before .before .before .before .before .if1 .left) (c .before .if2 .taken))
+    (summing-differs (h .args .image .now) (h .args .header) (l .left) (l .cursor) (stateOf (l .sum)) (l .inv .goes) (omega arith) (c .before .before .before .finish .result) (rw (c .before .before .before .before .settled .ensures) at (c .before .before .before .finish .ensures)) ks e (h .pre .0) (h .args .counts) (c .before .before .before .before .before .before .before .before .before .if1 .left) (c .before .if2 .taken))
 
 returns-4 : tie.Need-returns-4 Inv-loop μ-loop
 returns-4 c = λ ks e.
@@ -109,7 +109,7 @@ returns-4 c = λ ks e.
     summing-agrees (h .args .image .now) (h .args .header) (l .left) (l .cursor) (stateOf (l .sum)) (l .inv .goes)
     (omega arith) (c .before .before .finish .result)
     (rw (c .before .before .before .settled .ensures) at (c .before .before .finish .ensures)) ks e (h .pre .0)
-    (h .args .written) (h .args .skipped) (c .if2 .left)
+    (h .args .counts) (c .if2 .left)
 
 pub checked-spec : {M : Type 1} → statement M
 checked-spec =
@@ -118,7 +118,7 @@ checked-spec =
     Inv-loop
     μ-loop
     returns
-    cast-t12
+    cast-t11
     start-requires
     loop-holds
     read-chunk-requires

@@ -59,7 +59,7 @@ returns-3 c =
     let a = r .before .before .before .before .args in
     let g = c .before .before .found .given in
     answer-checked (a .image .now) (a .partition-len) (passed r) (r .read-header .result) (r .read-header .ensures)
-    (g .0 .0) (g .0 .1 .0) (answerOf (c .checked .result))
+    (g .0 .0) (answerOf (c .checked .result))
     (sym (ap answerOf (g .1)) ∙ c .before .before .before .before .structure .ensures) (c .checked .ensures)
 
 pub judge-spec : {M : Type 1} → statement M

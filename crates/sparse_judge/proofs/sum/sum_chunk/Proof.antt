@@ -4,7 +4,7 @@ use mathlib.Core.Path.{ap}
 use Prim.Native.Nat.{ℕ, _<_}
 use native.Mathlib.Omega.{arith}
 use lib.ListN.{getD}
-use Rattle.sparse_rules.specs.Cells.{writes}
+use Rattle.sparse_rules.specs.Counts.{writes}
 use Rattle.sparse_rules.proofs.SumLaws.{product, raw-inside}
 use Rattle.sparse_judge.proofs.Pending.{summed-raw, summed-fill, summed-kept}
 use borrow.Author.Needs.{needs}

@@ -9,12 +9,12 @@ slice-aggregate-read-header c = search needs
 read-header-requires : tie.Need-read-header-requires
 read-header-requires c κs = search needs
 
-cast-t9 : tie.Need-cast-t9
-cast-t9 c = search needs
+cast-t10 : tie.Need-cast-t10
+cast-t10 c = search needs
 
 returns : tie.Need-returns
-returns c = rw (c .before .read-header .ensures)
+returns c = rw (c .before .before .read-header .ensures)
 
 pub await-chunks-spec : {M : Type 1} → statement M
 await-chunks-spec =
-    tie.close (tie.spec slice-aggregate-read-header read-header-requires cast-t9 returns)
+    tie.close (tie.spec slice-aggregate-read-header read-header-requires cast-t10 returns)

@@ -39,26 +39,21 @@ less-requires c κs = search needs
 cast-t12 : tie.Need-cast-t12
 cast-t12 c = search needs
 
-blocks-written-requires : tie.Need-blocks-written-requires
-blocks-written-requires c κs = search needs
-
-wrapping-add-u32-requires : tie.Need-wrapping-add-u32-requires
-wrapping-add-u32-requires c κs = search needs
+count-on-requires : tie.Need-count-on-requires
+count-on-requires c κs = search needs
 
 sum-head-requires : tie.Need-sum-head-requires
 sum-head-requires c κs = search needs
 
 returns : tie.Need-returns
 returns c =
-    let kind-now = c .before .before .before .before .before .before .before .before .before .kind-now in
-    let blocks-now = c .before .before .before .before .before .before .before .before .blocks-now in
-    let size-now = c .before .before .before .before .before .before .before .size-now in
-    let less = c .before .before .before .less in
-    let blocks-written = c .before .before .blocks-written in
+    let kind-now = c .before .before .before .before .before .before .before .before .kind-now in
+    let blocks-now = c .before .before .before .before .before .before .before .blocks-now in
+    let size-now = c .before .before .before .before .before .before .size-now in
+    let less = c .before .before .less in
     rw (
       c .sum-head .ensures,
-      c .before .wrapping-add-u32 .ensures,
-      blocks-written .ensures,
+      c .before .count-on .ensures,
       less .ensures,
       size-now .ensures,
       blocks-now .ensures,
@@ -78,7 +73,6 @@ pass-chunk-spec =
     cast-less-2
     less-requires
     cast-t12
-    blocks-written-requires
-    wrapping-add-u32-requires
+    count-on-requires
     sum-head-requires
     returns)
