@@ -96,10 +96,11 @@ static const char *plural(uint64_t number)
 
 static void say_unknown(const struct remarks *remarks)
 {
-    char kept[64], text[256];
+    char kept[64] = "no blocks", text[256];
 
-    snprintf(kept, sizeof kept, "%" PRIu64 " block%s kept as %s", remarks->blocks, plural(remarks->blocks),
-             remarks->blocks == 1 ? "it was" : "they were");
+    if (remarks->blocks != 0)
+        snprintf(kept, sizeof kept, "%" PRIu64 " block%s kept as %s", remarks->blocks, plural(remarks->blocks),
+                 remarks->blocks == 1 ? "it was" : "they were");
     if (remarks->chunks == 0)
         snprintf(text, sizeof text, "chunks of unknown type: %s", kept);
     else

@@ -9,7 +9,7 @@
 #include <unistd.h>
 
 /* The bytes of a piece at most, and where the state of a pass has the checksum that the file header states. */
-enum { PIECE = 16384, CHECKSUM_AT = 68 + 24 };
+enum { PIECE = 16384, CHECKSUM_AT = TARPAULARK_PASS_HEADER + 24 };
 
 static const char unread[] = "cannot be read to its end; see to where it comes from, and run the same command again";
 

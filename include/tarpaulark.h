@@ -17,9 +17,12 @@
  *
  * Bytes are lent as a pointer and their number. Lend the whole stretch; a pointer
  * whose number is 0 is never followed. An answer, a record and a pass are lent
- * whole and must not be null. What is written (a partition, an output, a record, a
- * pass, an answer) must not overlap anything else that is lent to the call, and
- * nobody else writes to what is lent meanwhile.
+ * whole, in the lengths that are named below, and must not be null. What is written
+ * (a partition, an output, a record, a pass, an answer) must not overlap anything
+ * else that is lent to the call, and nobody else writes to what is lent meanwhile.
+ *
+ * From 0.3.0 to 0.4.0 the answers of judge, store and of finishing a pass grew from
+ * 3 entries to 4, and a pass from 104 bytes to 112.
  *
  * Where it runs
  *
@@ -73,6 +76,9 @@
 #define TARPAULARK_PIECE_ANSWER 1
 #define TARPAULARK_FINISH_ANSWER 4
 #define TARPAULARK_PASS 112
+
+/* Where the state of a pass has the known fields of the file header, once they have come. */
+#define TARPAULARK_PASS_HEADER 68
 
 /* The most bytes that the image of flat bytes takes at a block size above 0. */
 #define TARPAULARK_WRITE_BOUND(flat_len, block_size) \
@@ -234,7 +240,7 @@ extern "C" {
  * A chunk of unknown type is no refusal. It is passed over with its data, and its
  * blocks are kept, as those of a don't care chunk are; but it is a sign that the
  * image holds what this library does not understand. One of 0 blocks adds nothing
- * to the count: a walk by tarpaulark_chunk shows it.
+ * to the count: a walk by tarpaulark_chunk shows it, a pass does not.
  */
 uint32_t tarpaulark_judge(
     const uint8_t *image, size_t image_len, uint64_t partition_len,

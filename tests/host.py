@@ -619,6 +619,8 @@ UNCHECKED = "no checksum is stated: the data were not checked"
 
 def kept(blocks: int) -> str:
     """What is said of the blocks of unknown chunks."""
+    if blocks == 0:
+        return "no blocks"
     return "1 block kept as it was" if blocks == 1 else f"{blocks} blocks kept as they were"
 
 
@@ -738,7 +740,7 @@ def unknown_told(tool: Tool) -> None:
                "chunks of unknown type: 2 blocks kept as they were\n"),
         "kinds": ("1 chunk of unknown type: 1 block kept as it was; the first is 0x0007 at offset 76\n",
                   "chunks of unknown type: 1 block kept as it was\n"),
-        "hollow": ("1 chunk of unknown type: 0 blocks kept as they were; the first is 0xCAC0 at offset 44\n", ""),
+        "hollow": ("1 chunk of unknown type: no blocks; the first is 0xCAC0 at offset 44\n", ""),
         "strange": ("3 chunks of unknown type: 5 blocks kept as they were; the first is 0xFFFF at offset 40\n",
                     "chunks of unknown type: 5 blocks kept as they were\n"),
     }

@@ -2,8 +2,8 @@
  * Measures how much stack a call of each exported function takes: the call runs on a stack of its own whose words
  * were painted, and the lowest word that lost its paint tells how deep it went, less what an empty call takes. The
  * inputs are accepted ones and, by damage, ones that get every refusal but 28. Prints one line, `stack: N calls of
- * M functions take at most B bytes`; ends with 1 where a call takes more than include/tarpaulark.h promises, or a
- * refusal was not met.
+ * M functions take at most B bytes`; ends with 1 where a call, with its state where it is one of a pass, takes more
+ * than include/tarpaulark.h promises for the call, or a refusal was not met.
  */
 #include "tarpaulark.h"
 
@@ -424,7 +424,7 @@ static bool report(void)
     }
     printf("stack: %zu calls of %zu functions take at most %zu bytes (%s); a pass takes %zu with its state\n", calls,
            FUNCTIONS, deepest->deepest, deepest->name, by_pass + TARPAULARK_PASS);
-    return deepest->deepest < PROMISED;
+    return deepest->deepest < PROMISED && by_pass + TARPAULARK_PASS < PROMISED;
 }
 
 int main(void)

@@ -4,7 +4,7 @@ use mathlib.Core.Path.{_≡_, refl, ap}
 use Prim.Native.Nat.{ℕ, zero, suc, _≤_, _<_}
 use native.Mathlib.Nat.{zero-lt-suc}
 use native.Mathlib.Omega.{arith}
-use Rattle.rules.specs.Answer.{Answer, accepted, refused, unless, onward, numberOf, placeOf, HasNumber}
+use Rattle.rules.specs.Answer.{Answer, accepted, refused, unless, onward, numberOf, HasNumber}
 
 module _ {A : Type 0} where
   -- a number that is not 0 refuses
@@ -21,10 +21,6 @@ module _ {A : Type 0} where
   pub unless-accepted : (n place : ℕ) (a : Answer A) (x : A) → unless n place a ≡ accepted x → (n ≡ 0) × (a ≡ accepted x)
   unless-accepted zero place a x e = (refl, e)
   unless-accepted (suc n) place a x e = absurd (let z : _≡_ {A = ℕ} (suc n) 0 = ap numberOf e in omega arith)
-
-  -- two refusals that are equal have one number and one place
-  pub refused-same : (n place m spot : ℕ) → _≡_ {A = Answer A} (refused n place) (refused m spot) → (n ≡ m) × (place ≡ spot)
-  refused-same n place m spot e = (ap numberOf e, ap placeOf e)
 
   -- two accepted answers that are equal have one value
   pub accepted-same : {x y : A} → accepted x ≡ accepted y → x ≡ y

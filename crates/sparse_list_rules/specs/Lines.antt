@@ -31,7 +31,7 @@ kindWord Fill = ascii " fill "
 kindWord DontCare = ascii " skip "
 kindWord Unknown = ascii " unknown "
 
--- a chunk's line: "first block, `raw`, `fill` or `skip`, blocks"
+-- a chunk's line: "first block", what it is called, "blocks"
 unfoldable pub chunkLine : ℕ → Chunk → List ℕ
 chunkLine first k = line (decimal first ∷ labelled (kindWord (k .kind)) (k .blocks) ∷ [])
 

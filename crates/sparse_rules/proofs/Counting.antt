@@ -25,7 +25,7 @@ unfolding blocksWhere
 where-cons f k ks = refl
 
 -- blocks of chunks that are joined
-pub where-append : (f : Kind → Bool) (ks ls : List Chunk) → blocksWhere f (ks ++ ls) ≡ blocksWhere f ks + blocksWhere f ls
+where-append : (f : Kind → Bool) (ks ls : List Chunk) → blocksWhere f (ks ++ ls) ≡ blocksWhere f ks + blocksWhere f ls
 unfolding blocksWhere
 where-append f [] ls = sym (zero-add _)
 where-append f (k ∷ ks) ls = rw (where-append f ks ls) (sym (add-assoc (cond (f (k .kind)) (k .blocks) 0) (blocksWhere f ks) (blocksWhere f ls)))

@@ -76,11 +76,6 @@ module _ (s : List ℕ) (len room : ℕ) where
   unfolding answer answerFor
   answer-counts ks e = ap answerFor e
 
-  -- a refused one with its refusal
-  pub answer-refusal : (n place : ℕ) → judged s len room ≡ refused n place → answer s len room ≡ refused n place
-  unfolding answer answerFor
-  answer-refusal n place e = ap answerFor e
-
 -- ---- a chunk
 
 -- a chunk's cells are those of its kind, over all its blocks

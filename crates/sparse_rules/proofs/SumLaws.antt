@@ -12,13 +12,11 @@ use Rattle.fields_rules.specs.Number.{numberAt, bytes}
 use Rattle.crc32_rules.specs.Crc.{crcFrom, allOnes}
 use Rattle.crc32_rules.specs.Power.{repeated}
 use Rattle.crc32_rules.proofs.Laws.{crc-nil, crc-append, crc-finish}
-use Rattle.sparse_rules.specs.declared.Header.{Header}
-use Rattle.sparse_rules.specs.declared.Cursor.{Cursor}
 use Rattle.sparse_rules.specs.declared.Kind.the-variants.{Raw, Fill}
 use Rattle.sparse_rules.specs.declared.Chunk.{Chunk}
 use Rattle.sparse_rules.specs.Cells.{cellsOf, cells, zeroed, checksumOf}
 use Rattle.sparse_rules.specs.Counts.{writes}
-use Rattle.sparse_rules.specs.Facts.{HeaderFacts, ChunkFacts, Summable}
+use Rattle.sparse_rules.specs.Facts.{Summable}
 use Rattle.sparse_rules.proofs.Cells.{cells-nil, cells-cons, zeroed-append, zeroed-raw, zeroed-fill, zeroed-kept}
 
 -- blocks of at most 65,536 bytes, counted in 32 bits, are at most 2^48 bytes
@@ -34,11 +32,6 @@ pub words : (k b : ℕ) → b % 4 ≡ 0 → 4 * (k * b / 4) ≡ k * b
 words k b e = omega (arith, fours k b e)
 
 -- ---- a chunk
-
--- a chunk that is read under a header that passes can be summed
-pub summable : (s : List ℕ) (h : Header) (c : Cursor) (k : Chunk) (next : Cursor) (room : ℕ)
-    → HeaderFacts h (length s) room → ChunkFacts s (length s) h c k next → Summable s (h .block) k
-summable s h c k next room f g = record { most = f .block-most; fours = f .block-fours; inside = le-trans (g .data-inside) (g .inside) }
 
 module _ (state : ℕ) (s : List ℕ) (b : ℕ) (k : Chunk) (w : Summable s b k) where
   -- a raw chunk's blocks lie in the image

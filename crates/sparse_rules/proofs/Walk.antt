@@ -25,7 +25,7 @@ module _ (s : List ℕ) (len : ℕ) (h : Header) where
   walk-step (suc n) c p = rw sub-one
 
   -- a walk over no chunks makes the tests after the last one
-  pub walk-end : (n : ℕ) (c : Cursor) → n ≡ 0 → walk s len h n c ≡ unless (first (endTests len h c)) (c .at) (accepted [])
+  walk-end : (n : ℕ) (c : Cursor) → n ≡ 0 → walk s len h n c ≡ unless (first (endTests len h c)) (c .at) (accepted [])
   unfolding walk
   walk-end zero c e = refl
   walk-end (suc n) c e = absurd (omega arith)

@@ -19,7 +19,7 @@ abbrev pub readingOf : ChunkRead → Reading
 readingOf (read.Chunk k next) = chunk k next
 readingOf (read.Refused f) = refused (f .number) (f .place)
 
--- the refused of a reading, with number 0 where it is a chunk
+-- the refusal of a reading, with number 0 where it is a chunk
 abbrev pub refusalIn : Reading → Refusal
 refusalIn r = record { number = numberOf r; place = placeOf r }
 

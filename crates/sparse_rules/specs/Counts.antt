@@ -16,11 +16,11 @@ writes Fill = true
 writes DontCare = false
 writes Unknown = false
 
--- those of a don't care chunk are not, though its type is known
+-- those of a don't care chunk are not, and its type is known
 abbrev pub isDontCare : Kind → Bool
 isDontCare k = isKnown k && not (writes k)
 
--- and those of a chunk of any other type
+-- a chunk whose type is not known
 abbrev pub isUnknown : Kind → Bool
 isUnknown k = not (isKnown k)
 

@@ -71,7 +71,7 @@ Checksums = (s : List ℕ) (len room : ℕ) (ks : List Chunk) → first (headerT
 abbrev pub NoneStated : Type 0
 NoneStated = (s : List ℕ) (len room place : ℕ) → statedChecksum s ≡ 0 → judged s len room ≡ refused 11 place → ⊥
 
--- "Each chunk as read shall say whether its type is known": it is one of three
+-- "Each chunk as read shall say whether its type is known": it is exactly where it is one of 01's three
 abbrev pub TypesTold : Type 0
 TypesTold = (s : List ℕ) (len : ℕ) (h : Header) (c : Cursor) (k : Chunk) (next : Cursor) → reading s len h c ≡ chunk k next
     → isKnown (k .kind) ≡ (eqb (typeAt s (c .at)) 0xCAC1 || eqb (typeAt s (c .at)) 0xCAC2 || eqb (typeAt s (c .at)) 0xCAC3)

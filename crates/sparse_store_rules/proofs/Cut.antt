@@ -5,7 +5,6 @@ use mathlib.Core.Option.{Option}
 use mathlib.Core.List.{List, []}
 use Prim.Native.Nat.{ℕ, _*_, min, _≤_}
 use native.Mathlib.Nat.{le-of-lt, min-eq-left, min-eq-right, mul-le-mul-right}
-use native.Mathlib.Omega.{arith}
 use lib.Dec.{leb}
 use borrow.Author.Tests.{leb-true, leb-false}
 use mathlib.Core.Bool.{Bool, true, false}
@@ -15,7 +14,6 @@ use Rattle.rules.proofs.Answer.{onward-number}
 use Rattle.sparse_rules.proofs.Theorems.{refusal-numbers}
 use Rattle.sparse_rules.specs.declared.Chunk.{Chunk}
 use Rattle.sparse_rules.specs.Header.{blockSize}
-use Rattle.sparse_rules.specs.Walk.{Finding}
 use Rattle.sparse_rules.specs.Cells.{count, cells}
 use Rattle.sparse_rules.specs.Counts.{written}
 use Rattle.sparse_rules.specs.Judge.{judged, effect}
@@ -54,15 +52,6 @@ module _ (limit : ℕ) (s : List ℕ) (room : ℕ) where
   pub cut-refused : (n place : ℕ) → judged s (length s) room ≡ refused n place → cutAnswer limit s room ≡ refused n place
   unfolding cutAnswer cutAnswerFor
   cut-refused n place e = ap (cutAnswerFor limit) e
-
-  -- and no other is
-  pub cut-judged : (n place : ℕ) → cutAnswer limit s room ≡ refused n place → judged s (length s) room ≡ refused n place
-  unfolding cutAnswer cutAnswerFor
-  cut-judged n place = go (judged s (length s) room)
-    where
-      go : (f : Finding) → cutAnswerFor limit f ≡ refused n place → f ≡ refused n place
-      go (accepted ks) e = let z : _≡_ {A = ℕ} 0 1 = cc in absurd (omega arith)
-      go (refused m at) e = cc
 
 -- ---- an accepted image
 

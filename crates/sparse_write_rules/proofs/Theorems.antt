@@ -25,7 +25,6 @@ use Rattle.sparse_rules.specs.Header.{blockSizeRight, blockSize, statedChecksum
 use Rattle.sparse_rules.specs.Cells.{tab, rawByte, zeroed}
 use Rattle.sparse_rules.specs.Counts.{written, dontCare, unknown}
 use Rattle.sparse_rules.specs.Judge.{effect}
-use Rattle.sparse_rules.specs.Answers as judge
 use Rattle.sparse_rules.proofs.Cells.{length-tab, zeroed-some}
 use Rattle.sparse_rules.proofs.Counting.{where-nil, where-cons, counts-same}
 use Rattle.sparse_rules.proofs.Image.{answer-counts}

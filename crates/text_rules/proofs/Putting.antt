@@ -2,7 +2,7 @@
 -- Assumes nothing.
 use mathlib.Core.Path.{_≡_, refl, sym, ap, _∙_}
 use mathlib.Core.Bool.{Bool, true, false}
-use mathlib.Core.List.{List, [], _++_}
+use mathlib.Core.List.{List, _++_}
 use Prim.Native.Nat.{ℕ, _+_, _≤_, _<_}
 use native.Mathlib.Omega.{arith}
 use borrow.Author.Tests.{ltb-true, ltb-false}
@@ -11,10 +11,6 @@ use lib.ListN.{length, take, drop, length-append}
 use lib.Seq.{sets, length-sets}
 use Rattle.fields_rules.proofs.Sets.{sets-append, sets-past, sets-start}
 use Rattle.text_rules.specs.Put.{Put}
-
--- no bytes
-pub put-none : (a : List ℕ) (at : ℕ) → at < 0x10000000000000000 → Put a at [] a at
-put-none a at h = record { stored = refl; past = omega arith }
 
 -- a buffer keeps its length
 pub put-length : {a b : List ℕ} {at n : ℕ} {x : List ℕ} → Put a at x b n → length b ≡ length a
