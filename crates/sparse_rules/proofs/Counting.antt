@@ -10,7 +10,7 @@ use Rattle.sparse_rules.specs.declared.Kind.{Kind}
 use Rattle.sparse_rules.specs.declared.Kind.the-variants.{Raw, Fill, DontCare, Unknown}
 use Rattle.sparse_rules.specs.declared.Chunk.{Chunk}
 use Rattle.sparse_rules.specs.declared.Counts.{Counts}
-use Rattle.sparse_rules.specs.Counts.{writes, isDontCare, isUnknown, blocksWhere, written, dontCare, unknown, countsOf, countedOn}
+use Rattle.sparse_rules.specs.Counts.{writes, isDontCare, isUnknown, blocksWhere, written, dontCare, unknown, countsOf, noCounts, countedOn}
 
 -- ---- the chunks of some kinds
 
@@ -68,7 +68,7 @@ pub counts-same : {w d u w₁ d₁ u₁ : ℕ} → w ≡ w₁ → d ≡ d₁ →
 counts-same p q r = rw (p, q, r)
 
 -- no chunks count nothing
-pub counts-none : countsOf [] ≡ record { written = 0; «dont_care» = 0; unknown = 0 }
+pub counts-none : countsOf [] ≡ noCounts
 counts-none = counts-same (where-nil writes) (where-nil isDontCare) (where-nil isUnknown)
 
 -- one chunk more is counted on, where all blocks fit in 32 bits

@@ -45,6 +45,10 @@ unknown ks = blocksWhere isUnknown ks
 abbrev pub countsOf : List Chunk → Counts
 countsOf ks = record { written = written ks; «dont_care» = dontCare ks; unknown = unknown ks }
 
+-- the counts before the first chunk
+abbrev pub noCounts : Counts
+noCounts = record { written = 0; «dont_care» = 0; unknown = 0 }
+
 -- counts with so many blocks more of a kind of chunk, each kept in 32 bits
 unfoldable pub countedOn : Counts → Kind → ℕ → Counts
 countedOn c Raw n = record { written = (c .written + n) % 2 ^ 32; «dont_care» = c .«dont_care»; unknown = c .unknown }

@@ -20,7 +20,7 @@ use Rattle.sparse_rules.specs.Header.{headerOf, headerTests}
 use Rattle.sparse_rules.specs.Chunks.{kindOf}
 use Rattle.sparse_rules.specs.Walk.{origin}
 use Rattle.sparse_rules.specs.Cells.{zeroed}
-use Rattle.sparse_rules.specs.Counts.{written}
+use Rattle.sparse_rules.specs.Counts.{noCounts}
 use Rattle.sparse_rules.specs.Facts.{HeaderFacts}
 use Rattle.sparse_rules.proofs.Facts.{header-facts}
 use Rattle.sparse_rules.proofs.Counting.{counts-none}
@@ -85,7 +85,7 @@ module _ (len room : ℕ) (lay : List (Option ℕ) → List ℕ) (n₀ : ℕ) wh
     pub bytes : (i : ℕ) → i < length s → getD (x .kept .file) i 0 ≡ getD s i 0
     pub width : length (x .kept .file) ≡ 28
     pub first : x .walk .next .first ≡ 0
-    pub counts : x .walk .counts ≡ record { written = 0; «dont_care» = 0; unknown = 0 }
+    pub counts : x .walk .counts ≡ noCounts
     pub sum : x .come .sum ≡ allOnes
     pub chunk : x .kept .chunk ≡ replicate 12 0
     pub word : x .kept .word ≡ replicate 4 0

@@ -8,6 +8,7 @@ use lib.ListN.{length, replicate}
 use Rattle.rules.specs.First.{first}
 use Rattle.crc32_rules.specs.Crc.{allOnes}
 use Rattle.sparse_rules.specs.declared.Counts.{Counts}
+use Rattle.sparse_rules.specs.Counts.{noCounts}
 use Rattle.rules.specs.Answer.{accepted, refused, Answer}
 use Rattle.sparse_stream_rules.specs.declared.Pass.{Pass}
 use Rattle.sparse_stream_rules.specs.State.{stopOr}
@@ -19,7 +20,7 @@ begun len room =
       told = record { length = len; room = room };
       refusal = record { number = 0; place = 0 };
       come = record { bytes = 0; sum = allOnes };
-      walk = record { next = record { at = 0; first = 0 }; left = 0; counts = record { written = 0; «dont_care» = 0; unknown = 0 } };
+      walk = record { next = record { at = 0; first = 0 }; left = 0; counts = noCounts };
       kept = record { file = replicate 28 0; chunk = replicate 12 0; word = replicate 4 0 };
     }
 

@@ -12,7 +12,7 @@ use Rattle.sparse_rules.specs.declared.Counts.{Counts}
 use Rattle.rules.specs.Answer.{refused, accepted, onward}
 use Rattle.sparse_rules.specs.Chunks.{chunk, reading}
 use Rattle.sparse_rules.specs.Walk.{Finding, more, walk, origin}
-use Rattle.sparse_rules.specs.Counts.{countsOf, countedOn}
+use Rattle.sparse_rules.specs.Counts.{countsOf, noCounts, countedOn}
 use Rattle.sparse_rules.specs.Answers.{answerFor}
 use Rattle.sparse_rules.proofs.Walk.{walk-refused, walk-read, walk-fell-short, walk-left-over, walk-over}
 use Rattle.sparse_rules.proofs.Facts.{chunk-facts}
@@ -40,7 +40,7 @@ pub record Tallied (s : List ℕ) (h : Header) (n : ℕ) (c : Cursor) (t : Count
   pub counts : countsOf ks ≡ t
   pub sum : blocksIn ks ≡ c .first
 
-pub tally-start : (s : List ℕ) (h : Header) → Tallied s h (h .chunks) (origin h) (record { written = 0; «dont_care» = 0; unknown = 0 })
+pub tally-start : (s : List ℕ) (h : Header) → Tallied s h (h .chunks) (origin h) noCounts
 tally-start s h = record { ks = []; goes = after-none (walk s (length s) h (h .chunks) (origin h)); counts = counts-none; sum = refl }
 
 module _ (s : List ℕ) (h : Header) (n : ℕ) (c : Cursor) (t : Counts) (i : Tallied s h n c t) where
