@@ -40,10 +40,12 @@ static const struct command {
     {"slots", 2, 3, 0, slots,
      "slots RECORD fresh COUNT\n"
      "       tarpaulark slots RECORD start | confirm | show\n"
-     "       tarpaulark slots RECORD set-active | modified SLOT",
-     "works on a slot record of 17 bytes: fresh makes one for 1 to 4 slots, start picks\n"
+     "       tarpaulark slots RECORD set-active | modified | corrupted SLOT",
+     "works on a slot record of 21 bytes: fresh makes one for 1 to 4 slots, start picks\n"
      "          the slot to start and takes its try, confirm marks the current slot\n"
-     "          successful, show prints the record; SLOT is a letter from a on"},
+     "          successful, corrupted marks a slot whose system is damaged, which then does not\n"
+     "          start, set-active and modified clear that mark, show prints the record; SLOT is\n"
+     "          a letter from a on"},
 };
 enum { COMMANDS = sizeof commands / sizeof commands[0] };
 
@@ -67,6 +69,9 @@ static const char options_help[] =
     "\n"
     "A header checksum of 0 states none: such an image is accepted without its data being\n"
     "checked, which judge, store and list say on standard error.\n"
+    "\n"
+    "A slot record of 17 bytes, as tarpaulark 0.4.0 and before made it, has no flag corrupted.\n"
+    "It is refused with 31 and stays as it is; the man page says how to make a new one of it.\n"
     "\n"
     "Images, partitions and records are locked while they are used; a busy one is left\n"
     "alone. Results are on the disk before they are printed.\n"

@@ -31,7 +31,7 @@ static const char *const meaning[] = {
     [TARPAULARK_BAD_BOOT_POSITION] = "a section position does not fit in 64 bits",
     [TARPAULARK_BAD_RECORD] = "invalid slot record, or a fresh record for a number of slots not 1 to 4",
     [TARPAULARK_BAD_SLOT] = "slot past d or not in use",
-    [TARPAULARK_BAD_CONFIRM] = "confirming an unbootable slot",
+    [TARPAULARK_BAD_CONFIRM] = "confirming an unbootable or corrupted slot",
 };
 
 const char *refusal_meaning(uint32_t number)

@@ -8,6 +8,12 @@
 #include <string.h>
 #include <unistd.h>
 
+/* The length of a record up to 0.4.0: four bytes for each slot, without corrupted, and the current slot. */
+enum { OLD_RECORD = 17 };
+
+#define IS_OLD_RECORD "is a slot record of 17 bytes, as tarpaulark 0.4.0 and before made it, without the flag" \
+                      " corrupted; to make a new one of it, see NOTES in the man page"
+
 static const char missing[] = "cannot be opened; see that it is there and that you may use it";
 
 /* What was answered stands in the record file; where the disk is in doubt, the words say what that means. */
@@ -43,59 +49,99 @@ static ssize_t read_record(const char *path, int file, uint8_t record[TARPAULARK
     return length;
 }
 
+/* Refuses a file of so many bytes; of the old length it is said what it is. */
+static enum status refuse_record(ssize_t length)
+{
+    enum status status = refuse(TARPAULARK_BAD_RECORD, 0);
+
+    if (length == OLD_RECORD)
+        advise("record", "by its length this " IS_OLD_RECORD);
+    return status;
+}
+
+static void say_slot(char letter, const uint8_t *slot)
+{
+    open_item();
+    say_letter("slot", letter);
+    say_number("tries", slot[TARPAULARK_SLOT_TRIES]);
+    say_flag("unbootable", slot[TARPAULARK_SLOT_UNBOOTABLE] != 0);
+    say_flag("successful", slot[TARPAULARK_SLOT_SUCCESSFUL] != 0);
+    say_flag("corrupted", slot[TARPAULARK_SLOT_CORRUPTED] != 0);
+    close_item();
+}
+
 /* Needs no lock: a record file is never changed, only replaced. */
 static enum status show(const char *path)
 {
     uint8_t record[TARPAULARK_RECORD];
     struct mapped file = open_file(path, READ_IMAGE);
+    ssize_t length;
 
     if (!S_ISREG(file.before.st_mode))
         misused(path, "is no file; name one");
-    if (read_record(path, file.file, record) != TARPAULARK_RECORD || tarpaulark_slots_valid(record) != 0)
-        return refuse(TARPAULARK_BAD_RECORD, 0);
-    say_text("current", (const char[]){(char)('a' + record[16]), '\0'});
+    length = read_record(path, file.file, record);
+    if (length != TARPAULARK_RECORD || tarpaulark_slots_valid(record) != 0)
+        return refuse_record(length);
+    say_text("current", (const char[]){(char)('a' + record[TARPAULARK_RECORD_CURRENT]), '\0'});
     end_line();
     open_list("slots");
-    for (int i = 0; i < 4; i++) {
-        const uint8_t *slot = record + 4 * i;
+    for (char letter = 'a'; letter <= 'd'; letter++) {
+        const uint8_t *slot = record + TARPAULARK_RECORD_SLOT * (letter - 'a');
 
-        if (slot[0] == 0)
-            continue;
-        open_item();
-        say_letter("slot", (char)('a' + i));
-        say_number("tries", slot[3]);
-        say_flag("unbootable", slot[1] != 0);
-        say_flag("successful", slot[2] != 0);
-        close_item();
+        if (slot[TARPAULARK_SLOT_USED] != 0)
+            say_slot(letter, slot);
     }
     close_list();
     return DONE;
 }
 
-static uint32_t operate(const char *operation, uint32_t slot, uint8_t *record, uint64_t *answer)
+/* What changes a record: each operation has one of the two functions, by whether it takes a slot. */
+static const struct operation {
+    const char *name;
+    uint32_t (*run)(uint8_t *record, uint64_t *answer);
+    uint32_t (*run_on)(uint8_t *record, uint32_t slot, uint64_t *answer);
+} operations[] = {
+    {"start", tarpaulark_slots_start, NULL},
+    {"confirm", tarpaulark_slots_confirm, NULL},
+    {"set-active", NULL, tarpaulark_slots_set_active},
+    {"modified", NULL, tarpaulark_slots_modified},
+    {"corrupted", NULL, tarpaulark_slots_corrupted},
+};
+
+static const struct operation *operation_named(const char *name)
 {
-    if (strcmp(operation, "start") == 0)
-        return tarpaulark_slots_start(record, answer);
-    if (strcmp(operation, "confirm") == 0)
-        return tarpaulark_slots_confirm(record, answer);
-    if (strcmp(operation, "set-active") == 0)
-        return tarpaulark_slots_set_active(record, slot, answer);
-    return tarpaulark_slots_modified(record, slot, answer);
+    for (size_t i = 0; i < sizeof operations / sizeof operations[0]; i++)
+        if (strcmp(name, operations[i].name) == 0)
+            return operations + i;
+    return NULL;
 }
 
-static enum status change(const char *path, const char *operation, uint32_t slot)
+static enum status change(const char *path, const struct operation *operation, uint32_t slot)
 {
     uint8_t record[TARPAULARK_RECORD];
     uint64_t answer[TARPAULARK_SLOTS_ANSWER];
     struct place place = hold_place(path);
+    ssize_t length;
     uint32_t number;
 
     if (place.held < 0)
         failed(path, missing, ENOENT);
-    if (read_record(path, place.held, record) != TARPAULARK_RECORD)
-        return refuse(TARPAULARK_BAD_RECORD, 0);
-    number = operate(operation, slot, record, answer);
+    length = read_record(path, place.held, record);
+    if (length != TARPAULARK_RECORD)
+        return refuse_record(length);
+    number = operation->run != NULL ? operation->run(record, answer) : operation->run_on(record, slot, answer);
     return keep_record(&place, number, record, answer);
+}
+
+/* Only a record or an empty file is replaced; one of the old length is neither. */
+static void expect_replaceable(const struct place *place)
+{
+    if (place->held < 0 || place->old.st_size == 0 || place->old.st_size == TARPAULARK_RECORD)
+        return;
+    if (place->old.st_size == OLD_RECORD)
+        misused(place->path, "is there already and by its length " IS_OLD_RECORD "; else name another file, or"
+                             " remove it");
+    misused(place->path, "is there already and is no record, which has 21 bytes; name another file, or remove it");
 }
 
 static enum status fresh(const char *path, const char *operand)
@@ -108,8 +154,7 @@ static enum status fresh(const char *path, const char *operand)
     if (operand == NULL || !as_number(operand, UINT32_MAX, &count))
         misused(NULL, "fresh takes a number of slots");
     place = hold_place(path);
-    if (place.held >= 0 && place.old.st_size != 0 && place.old.st_size != TARPAULARK_RECORD)
-        misused(path, "is there already and is no record, which has 17 bytes; name another file, or remove it");
+    expect_replaceable(&place);
     number = tarpaulark_slots_fresh((uint32_t)count, record, answer);
     return keep_record(&place, number, record, answer);
 }
@@ -124,15 +169,16 @@ static uint32_t as_slot(const char *text)
 
 enum status slots(const struct request *request)
 {
-    const char *path = request->words[0], *operation = request->words[1], *operand = request->words[2];
+    const char *path = request->words[0], *name = request->words[1], *operand = request->words[2];
+    const struct operation *operation = operation_named(name);
 
-    if (strcmp(operation, "fresh") == 0)
+    if (strcmp(name, "fresh") == 0)
         return fresh(path, operand);
-    if (strcmp(operation, "show") == 0 && operand == NULL)
+    if (strcmp(name, "show") == 0 && operand == NULL)
         return show(path);
-    if ((strcmp(operation, "start") == 0 || strcmp(operation, "confirm") == 0) && operand == NULL)
+    if (operation != NULL && operation->run != NULL && operand == NULL)
         return change(path, operation, 0);
-    if ((strcmp(operation, "set-active") == 0 || strcmp(operation, "modified") == 0) && operand != NULL)
+    if (operation != NULL && operation->run_on != NULL && operand != NULL)
         return change(path, operation, as_slot(operand));
     misused(NULL, "slots takes RECORD and one of its operations");
 }

@@ -22,7 +22,8 @@
  * else that is lent to the call, and nobody else writes to what is lent meanwhile.
  *
  * From 0.3.0 to 0.4.0 the answers of judge, store and of finishing a pass grew from
- * 3 entries to 4, and a pass from 104 bytes to 112.
+ * 3 entries to 4, and a pass from 104 bytes to 112. From 0.4.0 to 0.5.0 a slot
+ * record grew from 17 bytes to 21 (see The slot record, below).
  *
  * Where it runs
  *
@@ -61,9 +62,10 @@
 #include <stdint.h>
 
 /* The version of the header, the library and the host tool; it stands only here. */
-#define TARPAULARK_VERSION "0.4.0"
+#define TARPAULARK_VERSION "0.5.0"
 
-/* Lengths of the answers, of a slot record, and of the state of a pass. */
+/* Lengths of the answers, of a slot record and each slot in it, and of the state of
+   a pass. */
 #define TARPAULARK_JUDGE_ANSWER 4
 #define TARPAULARK_STORE_ANSWER 4
 #define TARPAULARK_STORE_LIMITED_ANSWER 2
@@ -72,7 +74,8 @@
 #define TARPAULARK_CHUNK_ANSWER 6
 #define TARPAULARK_LOCATE_ANSWER 19
 #define TARPAULARK_SLOTS_ANSWER 2
-#define TARPAULARK_RECORD 17
+#define TARPAULARK_RECORD 21
+#define TARPAULARK_RECORD_SLOT 5
 #define TARPAULARK_PIECE_ANSWER 1
 #define TARPAULARK_FINISH_ANSWER 4
 #define TARPAULARK_PASS 112
@@ -150,9 +153,9 @@ enum tarpaulark_refusal {
     /* invalid slot record, or bytes that are none; fresh record for a number of
        slots not 1 to 4 */
     TARPAULARK_BAD_RECORD = 31,
-    /* slot past d or not in use (set active, modified) */
+    /* slot past d or not in use (set active, modified, corrupted) */
     TARPAULARK_BAD_SLOT = 32,
-    /* confirming an unbootable slot */
+    /* confirming an unbootable or corrupted slot */
     TARPAULARK_BAD_CONFIRM = 33
 };
 
@@ -210,6 +213,19 @@ enum {
     TARPAULARK_SIGNATURE = 5
 };
 #define TARPAULARK_SECTION(s) (1 + 3 * (s))
+
+/* Positions in a slot record: slot number k, 0 for a, has its five bytes from
+   TARPAULARK_RECORD_SLOT * k on; after all four stands the current slot. */
+enum {
+    TARPAULARK_SLOT_USED = 0,
+    TARPAULARK_SLOT_UNBOOTABLE = 1,
+    TARPAULARK_SLOT_SUCCESSFUL = 2,
+    TARPAULARK_SLOT_CORRUPTED = 3,
+    TARPAULARK_SLOT_TRIES = 4
+};
+enum {
+    TARPAULARK_RECORD_CURRENT = 20
+};
 
 /* Positions in the answer of a slot operation, and kinds of such an answer. */
 enum {
@@ -416,17 +432,28 @@ uint32_t tarpaulark_locate(
     const uint8_t *image, size_t image_len, uint64_t answer[TARPAULARK_LOCATE_ANSWER]);
 
 /*
- * The slot record: 17 bytes. For the slots a, b, c and d in turn
+ * The slot record: 21 bytes. For the slots a, b, c and d in turn
  *
- *    at 0, 4, 8, 12   used         0 or 1
- *    at 1, 5, 9, 13   unbootable   0 or 1
- *    at 2, 6, 10, 14  successful   0 or 1
- *    at 3, 7, 11, 15  tries        0 to 7
+ *    at 0, 5, 10, 15  used         0 or 1
+ *    at 1, 6, 11, 16  unbootable   0 or 1
+ *    at 2, 7, 12, 17  successful   0 or 1
+ *    at 3, 8, 13, 18  corrupted    0 or 1
+ *    at 4, 9, 14, 19  tries        0 to 7
  *
- * and at 16 the current slot, 0 for a to 3 for d. A valid record has a current
+ * and at 20 the current slot, 0 for a to 3 for d. A valid record has a current
  * slot in use, no used slot with tries above 7, and none both unbootable and
  * successful; places that are not used are ignored and kept. Bytes with another
  * flag than 0 or 1 are no record. Both give 31, and the bytes stay as they were.
+ *
+ * A corrupted slot is one whose system is damaged: the kernel's block checker finds
+ * that, and the system then calls tarpaulark_slots_corrupted. Such a slot may not
+ * start, successful or not. The flag may stand beside unbootable or successful, and
+ * only set active and partition modified clear it.
+ *
+ * Up to 0.4.0 the record had 17 bytes, four for each slot, without corrupted. Only
+ * the length tells the two apart: the bytes of an old one, and four more, may read
+ * as a valid new one. To make a new one of it, take for each slot its three flags,
+ * 0 for corrupted and its tries; then the current slot.
  *
  * Each operation reads the record and, unless it is refused, writes the new one
  * in its place. A number of slots or a slot is taken whole, as 32 bits: one that
@@ -436,7 +463,7 @@ uint32_t tarpaulark_locate(
  */
 
 /*
- * Whether 17 bytes are a valid record: 0, or 31 where they are not. Reads them.
+ * Whether 21 bytes are a valid record: 0, or 31 where they are not. Reads them.
  */
 uint32_t tarpaulark_slots_valid(const uint8_t record[TARPAULARK_RECORD]);
 
@@ -449,33 +476,41 @@ uint32_t tarpaulark_slots_fresh(
     uint32_t slots, uint8_t record[TARPAULARK_RECORD], uint64_t answer[TARPAULARK_SLOTS_ANSWER]);
 
 /*
- * Start. If the current slot is not unbootable, and is successful or has tries
- * above 0, it starts. Otherwise it is marked unbootable, and the first other used
- * slot in letter order that is successful and not unbootable becomes current and
- * starts; if none is, the answer is Recovery, and the mark stays. A started slot
- * that is not successful loses one try.
+ * Start. If the current slot is neither unbootable nor corrupted, and is successful
+ * or has tries above 0, it starts. Otherwise it is marked unbootable, its successful
+ * flag clears, and the first other used slot in letter order that is successful and
+ * neither unbootable nor corrupted becomes current and starts; if none is, the
+ * answer is Recovery, and the marks stay. A started slot that is not successful
+ * loses one try.
  * Refusal: 31.
  */
 uint32_t tarpaulark_slots_start(
     uint8_t record[TARPAULARK_RECORD], uint64_t answer[TARPAULARK_SLOTS_ANSWER]);
 
 /*
- * Set active. The slot (0 for a) becomes current, both flags clear, tries 3.
- * Refusals: 31, 32.
+ * Set active. The slot (0 for a) becomes current; unbootable, successful and
+ * corrupted clear, tries 3. Refusals: 31, 32.
  */
 uint32_t tarpaulark_slots_set_active(
     uint8_t record[TARPAULARK_RECORD], uint32_t slot, uint64_t answer[TARPAULARK_SLOTS_ANSWER]);
 
 /*
- * Partition modified. The slot's successful flag clears, tries 3. Unbootable
- * stays. Refusals: 31, 32.
+ * Partition modified. The slot's flags successful and corrupted clear, tries 3.
+ * Unbootable stays. Refusals: 31, 32.
  */
 uint32_t tarpaulark_slots_modified(
     uint8_t record[TARPAULARK_RECORD], uint32_t slot, uint64_t answer[TARPAULARK_SLOTS_ANSWER]);
 
 /*
- * Confirm. The current slot, if not unbootable, becomes successful. The system
- * calls this, never the loader. Refusals: 31, 33.
+ * Corrupted. Sets the slot's flag, whether it is set already or not, and changes
+ * nothing else: what follows is for the next Start. Refusals: 31, 32.
+ */
+uint32_t tarpaulark_slots_corrupted(
+    uint8_t record[TARPAULARK_RECORD], uint32_t slot, uint64_t answer[TARPAULARK_SLOTS_ANSWER]);
+
+/*
+ * Confirm. The current slot, if neither unbootable nor corrupted, becomes
+ * successful. The system calls this, never the loader. Refusals: 31, 33.
  */
 uint32_t tarpaulark_slots_confirm(
     uint8_t record[TARPAULARK_RECORD], uint64_t answer[TARPAULARK_SLOTS_ANSWER]);

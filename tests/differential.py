@@ -12,7 +12,7 @@ and ends with 1, also when a call crashes or does not end.
 
 A function of the library takes its arguments in order, then a pointer to the
 numbers it answers with, whose count is fixed; one that answers none takes no such
-pointer.  Bytes are a pointer and a length; a slot record is a pointer to its 17
+pointer.  Bytes are a pointer and a length; a slot record is a pointer to its 21
 bytes, and the state of a pass to its 112.  It returns 0 or the number of its
 refusal; beginning a pass returns nothing.  include/tarpaulark.h has the
 declarations.
@@ -56,7 +56,8 @@ LONGEST_WAIT = 120
 EDGES = (0, 1, 2, 3, 4, 7, 8, 11, 12, 13, 16, 28, 255, 256, 65532, 65535, 65536, 65540)
 EDGES += tuple(2**k + d for k in (30, 31, 32) for d in (-4, -1, 0, 1) if 2**k + d < 2**32)
 ROOM = 2**64 - 1
-RECORD_LENGTH = 17
+SLOT_LENGTH, SLOT_FLAGS = 5, 4
+RECORD_LENGTH = PLACES * SLOT_LENGTH + 1
 STATE_LENGTH = 112
 COME_AT, SUM_AT, COUNTS_AT, HEAD_AT = 28, 36, 56, 68
 LARGEST_LENT = 40000
@@ -304,8 +305,8 @@ def any_record(rng: random.Random) -> Record:
     """A record, mostly one that is valid or nearly so."""
     if below(rng, 4) != 0:
         return cases_slots.random_record(rng)
-    flags = [below(rng, 2) == 1 for _ in range(3 * PLACES)]
-    a, b, c, d = (Slot(*flags[3 * i:3 * i + 3], below(rng, 10)) for i in range(PLACES))
+    flags = [[below(rng, 2) == 1 for _ in range(SLOT_FLAGS)] for _ in range(PLACES)]
+    a, b, c, d = (Slot(*some, below(rng, 10)) for some in flags)
     return Record((a, b, c, d), pick(rng, (0, 1, 2, 3, 4, 255)))
 
 
@@ -407,16 +408,17 @@ def locate_call(rng: random.Random) -> Call:
 def no_record(rng: random.Random, given: bytes) -> bytes:
     """A record's bytes with a flag, or several, that is neither 0 nor 1."""
     for _ in range(1 + below(rng, 3)):
-        flag_at = 4 * below(rng, PLACES) + below(rng, 3)
+        flag_at = SLOT_LENGTH * below(rng, PLACES) + below(rng, SLOT_FLAGS)
         flag = pick(rng, (2, 3, 128, 255, 2 + below(rng, 254)))
         given = build.with_bytes(given, flag_at, bytes([flag]))
     return given
 
 
 def small_or_any(rng: random.Random) -> int:
-    """A number of 32 bits: small, or a small one but for its low byte, or any."""
+    """A number of 32 bits: mostly small, or large with low bits that are, or any."""
     small = below(rng, 6)
-    return pick(rng, (small, small, small, 256 + small, 2**31 + small, rng.getrandbits(32)))
+    large = small + pick(rng, (2**8, 2**16, 2**24, 2**31, 2**32 - 2**8, 2**32 - 2**16))
+    return pick(rng, (small,) * 6 + (large, large, 255, 2**32 - 1, rng.getrandbits(32)))
 
 
 def fresh_call(rng: random.Random) -> Call:
@@ -430,7 +432,7 @@ def fresh_call(rng: random.Random) -> Call:
 
 
 def valid_call(rng: random.Random) -> Call:
-    """`slots_valid`: 0 or 31 for any 17 bytes."""
+    """`slots_valid`: 0 or 31 for any bytes in the place of a record."""
     record = any_record(rng)
     given = bytes(cases_slots.record_values(record))
     number = 0 if is_valid(record) else 31
@@ -441,8 +443,8 @@ def valid_call(rng: random.Random) -> Call:
 
 def slots_call(operation: int, takes_slot: bool) -> Callable[[random.Random], Call]:
     """A slot operation: kind (0 done, 1 starts, 2 recovery, 3 refused) and the
-    started slot; the record of 17 bytes is updated.  Bytes that are no record
-    give 31 and stay."""
+    started slot; the record's bytes are updated.  Bytes that are no record give
+    31 and stay."""
     def make(rng: random.Random) -> Call:
         record = any_record(rng)
         slot = small_or_any(rng) if takes_slot else 0
@@ -671,6 +673,7 @@ KINDS = (
     single("slots_start", ("record",), 2, slots_call(cases_slots.START, False)),
     single("slots_set_active", ("record", 32), 2, slots_call(cases_slots.SET_ACTIVE, True)),
     single("slots_modified", ("record", 32), 2, slots_call(cases_slots.MODIFIED, True)),
+    single("slots_corrupted", ("record", 32), 2, slots_call(cases_slots.CORRUPTED, True)),
     single("slots_confirm", ("record",), 2, slots_call(cases_slots.CONFIRM, False)),
     Kind("pass", PASS_FUNCTIONS, pass_calls),
     Kind("forged_pass", PASS_FUNCTIONS, forged_calls),

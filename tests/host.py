@@ -63,6 +63,17 @@ STRANGE = build.sparse_image(4, [
     build.fill(b"efgh", 1), build.unknown(0, 2, b"moredata"),
 ])
 
+# Where a slot of a record has its tries.
+TRIES = 4
+
+
+def record_of(places: str, current: str = "a") -> bytes:
+    """A slot record: used, unbootable, successful, corrupted and tries of each place as five digits, which are zeros
+    for places that are left out; then the current slot."""
+    digits = places.replace(" ", "").ljust(20, "0")
+    return bytes([int(digit) for digit in digits] + ["abcd".index(current)])
+
+
 FILES: Dict[str, bytes] = {
     "p2": build.two_chunks(),
     "p6": build.two_chunks() + b"\0",
@@ -83,8 +94,9 @@ FILES: Dict[str, bytes] = {
     "flat": b"\xFF" * 4 + bytes(12),
     "sum0": b"\x9D\x0A\xD9\x6D",
     "boot": build.boot_image(3, 12289, kernel=4097, ramdisk=1),
-    "odd": bytes([1, 2]) + bytes(15),
-    "ends": bytes([1, 0, 0, 0] + [1, 0, 1, 0] + [0] * 9),
+    "odd": record_of("12000"),
+    "ends": record_of("10000 10100"),
+    "old": bytes([1, 0, 1, 2] + [1, 1, 0, 0] + [0, 0, 0, 3] * 2 + [0]),
 }
 
 LISTED = """block 4 total 10 chunks 7 checksum {}
@@ -201,7 +213,13 @@ CASES = (
     Case("slots record fresh 5", 1, "refused 31 at 0"),
     Case("slots record fresh 257", 1, "refused 31 at 0"),
     Case("slots record show", 0, "current b\na tries 2\nb tries 3"),
+    Case("slots record corrupted a", 0, "ok"),
+    Case("slots record corrupted c", 1, "refused 32 at 0"),
+    Case("slots record show", 0, "current b\na tries 2 corrupted\nb tries 3"),
     Case("slots record modified", 2, ""),
+    Case("slots record corrupted", 2, ""),
+    Case("slots record corrupted 0", 2, ""),
+    Case("slots record start b", 2, ""),
     Case("slots long fresh 2", 2, ""),
     Case("slots none2 fresh 1", 0, "ok"),
     Case("slots missing start", 3, ""),
@@ -209,6 +227,8 @@ CASES = (
     Case("slots odd show", 1, "refused 31 at 0"),
     Case("slots flat start", 1, "refused 31 at 0"),
     Case("slots ends start", 0, "starts b"),
+    Case("slots old start", 1, "refused 31 at 0"),
+    Case("slots old fresh 2", 2, ""),
     Case("strange p2", 2, ""),
     Case("", 2, ""),
 )
@@ -219,17 +239,18 @@ LEFT: Dict[str, bytes] = {
     "cut": FILES["cut"],
     "long": FILES["long"],
     "none": b"",
-    "none2": bytes([1, 0, 0, 3] + [0, 0, 0, 3] * 3 + [0]),
+    "none2": record_of("10003 00003 00003 00003"),
     "p2": FILES["p2"],
     "flat": FILES["flat"],
     "image": P9_IMAGE,
     "small": build.sparse_image(4096, []),
     "odd": FILES["odd"],
-    "ends": bytes([1, 1, 0, 0] + [1, 0, 1, 0] + [0] * 8 + [1]),
-    "record": bytes([1, 0, 0, 2] + [1, 0, 0, 3] + [0, 0, 0, 3] * 2 + [1]),
+    "ends": record_of("11000 10100", "b"),
+    "old": FILES["old"],
+    "record": record_of("10012 10003 00003 00003", "b"),
 }
 
-TRIED = bytes([1, 0, 0, 3] + [0] * 12 + [0])
+TRIED = record_of("10003")
 
 
 class CannotCheck(Exception):
@@ -424,14 +445,14 @@ def links(tool: Tool) -> None:
     os.symlink("far/real", "link")
     expect_end(tool.run("slots link start"), 0)
     after = os.stat("far/real")
-    expect(os.path.islink("link") and read("far/real")[3] == 2, "the real record")
+    expect(os.path.islink("link") and read("far/real")[TRIES] == 2, "the real record")
     expect((before.st_mode, before.st_uid, before.st_gid) == (after.st_mode, after.st_uid, after.st_gid),
            "owner and mode of the record")
     os.symlink("nowhere", "dangling")
     expect_end(tool.run("slots dangling fresh 2"), 2, "link to nothing")
     os.link("far/real", "other")
     expect_end(tool.run("slots other start"), 2, "hard links")
-    expect(read("other")[3] == 2, "a record with two names is changed")
+    expect(read("other")[TRIES] == 2, "a record with two names is changed")
 
 
 @contextlib.contextmanager
@@ -484,20 +505,20 @@ def locks_to_the_end(tool: Tool) -> None:
 def starts_at_once(tool: Tool) -> None:
     """Of several starts at one time each takes its own try, or none."""
     for _ in range(6):
-        save("tried", bytes([1, 0, 0, 7]) + TRIED[4:])
+        save("tried", record_of("10007"))
         running = [tool.begin("slots tried start") for _ in range(6)]
         ended = [(process.communicate(timeout=LONGEST_WAIT), process.returncode) for process in running]
         expect(all(status in (0, 3) for _, status in ended), f"statuses {ended}")
         taken = sum(status == 0 for _, status in ended)
-        expect(taken > 0 and read("tried")[3] == 7 - taken, f"{taken} tries taken, {read('tried')[3]} left")
+        expect(taken > 0 and read("tried")[TRIES] == 7 - taken, f"{taken} tries taken, {read('tried')[TRIES]} left")
 
 
 def replaced_at_once(tool: Tool) -> None:
     """A file that takes the place of the old one meanwhile is worked on, and one that takes a free place is kept."""
     save("tried", TRIED)
-    save("another", bytes([1, 0, 0, 7]) + TRIED[4:])
+    save("another", record_of("10007"))
     expect_end(tool.run("slots tried start", SWAP="tried"), 0)
-    expect(read("tried")[3] == 6, f"{read('tried')[3]} tries are left of the record that took the place")
+    expect(read("tried")[TRIES] == 6, f"{read('tried')[TRIES]} tries are left of the record that took the place")
     for faults in ({}, {"NO_NAMELESS": "1"}):
         with waiting(tool, "write flat 8 image", **faults) as process:
             save("image", b"another's")
@@ -606,7 +627,7 @@ def folder_not_synced(tool: Tool) -> None:
     done = tool.run("slots tried start", BAD_FOLDER="1")
     expect_end(done, 3, "spent")
     expect("again" not in done.stderr and done.stdout == "starts a\n", "what is said", done)
-    expect(read("tried")[3] == 2, "the try")
+    expect(read("tried")[TRIES] == 2, "the try")
     told = json.loads(tool.run("slots tried start --json", BAD_FOLDER="1").stdout)
     expect((told["answer"], told["slot"], told["status"]) == ("starts", "a", 3), f"the object {told}")
     expect_end(tool.run("write flat 8 image", BAD_FOLDER="1"), 3, "again")
@@ -1020,6 +1041,125 @@ def told_on_terminals(tool: Tool) -> None:
     expect(changed[0] == 3 and "the image changed while it was stored; store it again" in changed[2], f"{changed}")
 
 
+# The slot record.
+
+# An operation, the record before it, what it says, and the record after it.
+TURNS: Tuple[Tuple[str, bytes, str, bytes], ...] = (
+    ("corrupted a", record_of("10102"), "ok", record_of("10112")),
+    ("corrupted b", record_of("10003 11005"), "ok", record_of("10003 11015")),
+    ("corrupted b", record_of("10003 10112"), "ok", record_of("10003 10112")),
+    ("corrupted b", record_of("10003 00003"), "refused 32 at 0", record_of("10003 00003")),
+    ("corrupted e", record_of("10003"), "refused 32 at 0", record_of("10003")),
+    ("corrupted e", record_of("10008"), "refused 31 at 0", record_of("10008")),
+    ("corrupted b", record_of("11113"), "refused 31 at 0", record_of("11113")),
+    ("corrupted a", record_of("10023"), "refused 31 at 0", record_of("10023")),
+    ("start", record_of("10112 10003 10100 10100"), "starts c", record_of("11012 10003 10100 10100", "c")),
+    ("start", record_of("10100 10013", "b"), "starts a", record_of("10100 11013", "a")),
+    ("start", record_of("10000 10112 10101"), "starts c", record_of("11000 10112 10101", "c")),
+    ("start", record_of("10112 10003 00100"), "recovery", record_of("11012 10003 00100")),
+    ("start", record_of("10000 10112"), "recovery", record_of("11000 10112")),
+    ("start", record_of("11012 10112"), "recovery", record_of("11012 10112")),
+    ("start", record_of("10003 10112 00113"), "starts a", record_of("10002 10112 00113")),
+    ("set-active b", record_of("10102 11011"), "ok", record_of("10102 10003", "b")),
+    ("set-active a", record_of("10112"), "ok", record_of("10003")),
+    ("modified b", record_of("10112 11011"), "ok", record_of("10112 11003")),
+    ("modified a", record_of("10112"), "ok", record_of("10003")),
+    ("confirm", record_of("10013"), "refused 33 at 0", record_of("10013")),
+    ("confirm", record_of("10113"), "refused 33 at 0", record_of("10113")),
+    ("confirm", record_of("11013"), "refused 33 at 0", record_of("11013")),
+    ("confirm", record_of("10001 10112"), "ok", record_of("10101 10112")),
+    ("fresh 2", record_of("10112 10112"), "ok", record_of("10003 10003 00003 00003")),
+    ("fresh 0", record_of("10112 10112"), "refused 31 at 0", record_of("10112 10112")),
+)
+
+
+def corrupted_slots(tool: Tool) -> None:
+    """What each operation says of a record with the flag, and what it leaves; the object says the same."""
+    for words, before, said, after in TURNS:
+        refused = said.startswith("refused")
+        save("tried", before)
+        done = tool.run(f"slots tried {words}")
+        expect(done.returncode == (1 if refused else 0), f"{words} on {before!r}: {said}", done)
+        line = (done.stderr if refused else done.stdout).split("\n")[0]
+        expect(line == said and read("tried") == after, f"{words} on {before!r}: {said}", done)
+        save("tried", before)
+        told = json.loads(tool.run(f"slots tried {words} --json").stdout)
+        found = f"refused {told['number']} at {told['place']}" if refused else told["answer"]
+        expect(f"{found} {told.get('slot', '')}".strip() == said, f"{words} on {before!r}: {told}")
+        expect(told["status"] == done.returncode and read("tried") == after, f"{words} on {before!r} with --json")
+    save("tried", record_of("10013"))
+    expect_end(tool.run("slots tried confirm"), 1, "refused 33 at 0\nconfirming an unbootable or corrupted slot\n")
+
+
+def flags_shown(tool: Tool) -> None:
+    """The flags of slots in use are shown, in text those that are set."""
+    save("tried", record_of("10112 11014 00117 10100", "b"))
+    done = tool.run("slots tried show")
+    lines = "current b\na tries 2 successful corrupted\nb tries 4 unbootable corrupted\nd tries 0 successful\n"
+    expect(done.stdout == lines and done.returncode == 0, "what is shown", done)
+    told = json.loads(tool.run("slots tried show --json").stdout)
+    names = ("slot", "tries", "unbootable", "successful", "corrupted")
+    slots = (("a", 2, False, True, True), ("b", 4, True, False, True), ("d", 0, False, True, False))
+    expect(told["current"] == "b" and told["slots"] == [dict(zip(names, slot)) for slot in slots], f"{told}")
+
+
+INVALID = "refused 31 at 0\ninvalid slot record, or a fresh record for a number of slots not 1 to 4\n"
+OLD_IS = ("is a slot record of 17 bytes, as tarpaulark 0.4.0 and before made it, without the flag corrupted;"
+          " to make a new one of it, see NOTES in the man page")
+OPERATIONS = ("show", "start", "confirm", "set-active a", "modified b", "corrupted a", "corrupted e")
+
+
+def expect_no_record(tool: Tool, data: bytes, advice: str, misuse: str) -> None:
+    """Every operation refuses a file with a piece of advice, and no record is made in its place: it stays."""
+    save("tried", data)
+    before = os.stat("tried")
+    for words in OPERATIONS:
+        done, told = tool.run(f"slots tried {words}"), tool.run(f"slots tried {words} --json")
+        expect(done.returncode == 1 and done.stdout == "" and done.stderr == INVALID + advice, words, done)
+        found = json.loads(told.stdout)
+        expect(found["number"] == 31 and found["status"] == 1 and told.stderr == "", words, told)
+        expect(found.get("record", "") == advice.rstrip("\n"), f"{words}: the advice", told)
+    for words in ("fresh 2", "fresh 5"):
+        done, told = tool.run(f"slots tried {words}"), tool.run(f"slots tried {words} --json")
+        expect(done.returncode == 2 and done.stderr == f"tarpaulark: tried: {misuse}\n", words, done)
+        found = json.loads(told.stdout)
+        expect(found["words"] == misuse and found["status"] == 2 and told.stderr == "", words, told)
+    after = os.stat("tried")
+    expect(read("tried") == data and (after.st_ino, after.st_mtime_ns) == (before.st_ino, before.st_mtime_ns),
+           f"a file of {len(data)} bytes is changed")
+
+
+def old_records(tool: Tool) -> None:
+    """A record of the old length is left alone, whatever it holds, and it is said what it is."""
+    for data in (FILES["old"], bytes(17), b"\xFF" * 17, TRIED[:17]):
+        expect_no_record(tool, data, f"by its length this {OLD_IS}\n",
+                         f"is there already and by its length {OLD_IS}; else name another file, or remove it")
+
+
+def other_lengths(tool: Tool) -> None:
+    """A file of any other length is left alone, too."""
+    for length in (1, 16, 18, 20, 22, 42):
+        expect_no_record(tool, (TRIED * 2)[:length], "", f"is there already and is no record, which has {len(TRIED)}"
+                         " bytes; name another file, or remove it")
+
+
+def old_made_new(tool: Tool) -> None:
+    """What the man page tells to do makes a new record of an old one."""
+    man = read(os.path.join(ROOT, "host", "tarpaulark.1")).decode("ascii")
+    found = re.search(r"^\.nf\n(\{ for .*?)^\.fi$", man, re.MULTILINE | re.DOTALL)
+    assert found is not None
+    script = found.group(1).replace("\\-", "-").replace("\\(aq", "'").replace("\\e", "\\")
+    for old, new in (
+        (bytes(range(17)), bytes([0, 1, 2, 0, 3, 4, 5, 6, 0, 7, 8, 9, 10, 0, 11, 12, 13, 14, 0, 15, 16])),
+        (FILES["old"], record_of("10102 11000 00003 00003")),
+    ):
+        save("OLD", old)
+        expect(subprocess.run(["sh", "-e", "-c", script], check=False).returncode == 0, script)
+        expect(read("NEW") == new and read("OLD") == old, f"{read('NEW')!r} is made of {old!r}")
+    done = tool.run("slots NEW show")
+    expect(done.stdout == "current a\na tries 2 successful\nb tries 0 unbootable\n", "the new record", done)
+
+
 # What people look for.
 
 def help_and_version(tool: Tool) -> None:
@@ -1056,6 +1196,8 @@ def same_words(tool: Tool) -> None:
     for usage in usages:
         expect(f"tarpaulark {usage} " in man, f"the man page lacks {usage}")
         expect(f"    {usage}  " in readme, f"README.md lacks {usage}")
+    for name, text in (("the help", told), ("the man page", man)):
+        expect(f"slot record of {len(TRIED)} bytes" in text, f"{name} lacks the length of a slot record")
     for number, words in statuses:
         expect(f"{number} {words}.".replace("`", "").lower() in man.lower(), f"the man page lacks {words}")
         expect(f"| {number} | {words} |" in readme, f"README.md lacks {words}")
@@ -1102,7 +1244,8 @@ def same_in_json(tool: Tool) -> None:
                   "store p7 cut", "store kinds long --dry-run", "store p6 cut", "list kinds", "list p6", "list p7",
                   "list strange", "map kinds", "map p6",
                   "write flat 8 image", "write flat 12 image", "sections boot", "sections flat",
-                  "slots tried show", "slots odd show", "slots tried fresh 5", "slots tried fresh 3"):
+                  "slots tried show", "slots odd show", "slots old show", "slots tried corrupted a",
+                  "slots tried fresh 5", "slots tried fresh 3"):
         text, told = tool.run(words), tool.run(words + " --json")
         found = json.loads(told.stdout, object_pairs_hook=members)
         expect(told.returncode == text.returncode == found["status"] and told.stderr == "", words, told)
@@ -1225,6 +1368,7 @@ CHECKS: Tuple[Callable[[Tool], None], ...] = (
     none_stated, none_stated_in_json, not_checked, true_sum_of_0, unknown_told, unknown_is_kept,
     sent_in_pieces, sent_from_files, wrong_lengths, kinds_of_input, killed_on_the_way, faults_on_the_way,
     shown_from_pipes, shown_from_files, told_on_terminals,
+    corrupted_slots, flags_shown, old_records, other_lengths, old_made_new,
     help_and_version, same_words, not_printed, same_in_json, as_the_reference, names_of_any_bytes, long_images,
     mixed_cells,
 )

@@ -127,6 +127,11 @@ static void slots_modified(void)
     got(tarpaulark_slots_modified(record, slot, answer));
 }
 
+static void slots_corrupted(void)
+{
+    got(tarpaulark_slots_corrupted(record, slot, answer));
+}
+
 static void slots_confirm(void)
 {
     got(tarpaulark_slots_confirm(record, answer));
@@ -156,6 +161,7 @@ static struct function {
     {"slots_start", slots_start, false, 0},
     {"slots_set_active", slots_set_active, false, 0},
     {"slots_modified", slots_modified, false, 0},
+    {"slots_corrupted", slots_corrupted, false, 0},
     {"slots_confirm", slots_confirm, false, 0},
 };
 #define FUNCTIONS (sizeof functions / sizeof functions[0])
@@ -375,15 +381,15 @@ static void try_boot(void)
 /* Any record: flags that may be 0 or 1, tries up to 8, a current slot up to the place after d. */
 static void make_record(void)
 {
-    for (size_t i = 0; i < 16; i++)
-        record[i] = (uint8_t)(rand() % (i % 4 == 3 ? 9 : 2));
-    record[16] = (uint8_t)(rand() % 5);
+    for (size_t i = 0; i < TARPAULARK_RECORD_CURRENT; i++)
+        record[i] = (uint8_t)(rand() % (i % TARPAULARK_RECORD_SLOT == TARPAULARK_SLOT_TRIES ? 9 : 2));
+    record[TARPAULARK_RECORD_CURRENT] = (uint8_t)(rand() % 5);
 }
 
 static void try_slots(void)
 {
     static void (*const operations[])(void) = {
-        slots_valid, slots_fresh, slots_start, slots_set_active, slots_modified, slots_confirm,
+        slots_valid, slots_fresh, slots_start, slots_set_active, slots_modified, slots_corrupted, slots_confirm,
     };
 
     for (size_t i = 0; i < 2000; i++)

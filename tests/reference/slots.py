@@ -1,7 +1,8 @@
-"""The slot record and its operations: document 01, "Slot record"."""
+"""The slot record and its operations: document 01, "Slot record", and document 02,
+change request 4."""
 
 from dataclasses import dataclass
-from typing import NamedTuple, Optional, Tuple, Union
+from typing import Any, NamedTuple, Optional, Tuple, Union
 
 PLACES = 4
 MOST_TRIES = 7
@@ -9,11 +10,13 @@ NEW_TRIES = 3
 
 
 class Slot(NamedTuple):
-    """One place of the record."""
+    """One place of the record.  02, CR 4: "Add a *corrupted* flag to each slot of the
+    record."."""
 
     used: bool
     unbootable: bool
     successful: bool
+    corrupted: bool
     tries: int
 
 
@@ -26,7 +29,7 @@ class Record(NamedTuple):
 
 @dataclass(frozen=True)
 class Done:
-    """Fresh, set active, modified and confirm, when they refuse nothing."""
+    """Fresh, set active, modified, corrupted and confirm, when they refuse nothing."""
 
 
 @dataclass(frozen=True)
@@ -58,7 +61,8 @@ def is_used(record: Record, slot: int) -> bool:
 
 def is_valid(record: Record) -> bool:
     """01: "A valid record has a current slot in use, no used slot with tries above
-    7, and none both unbootable and successful; unused places are ignored"."""
+    7, and none both unbootable and successful; unused places are ignored".  CR 4 of
+    02 adds nothing to it: a slot may be corrupted and successful."""
     used = [slot for slot in record.slots if slot.used]
     return (
         is_used(record, record.current)
@@ -76,26 +80,38 @@ def with_slot(record: Record, index: int, slot: Slot) -> Record:
 def fresh(number: int) -> Tuple[Answer, Record]:
     """01: "the first so many in use, current a, and in all four places flags clear
     and tries 3. Another number of slots gives 31 and a record with no slot in
-    use, current a, flags clear, tries 0."."""
+    use, current a, flags clear, tries 0."; 02, CR 4: "A fresh record has it clear"."""
+    clear = Slot(False, False, False, False, NEW_TRIES)
     if not 1 <= number <= PLACES:
-        unused = Slot(False, False, False, 0)
-        return Refusal(31), Record((unused,) * PLACES, 0)
-    places = tuple(Slot(i < number, False, False, NEW_TRIES) for i in range(PLACES))
+        return Refusal(31), Record((clear._replace(tries=0),) * PLACES, 0)
+    places = tuple(clear._replace(used=i < number) for i in range(PLACES))
     return Done(), Record(places, 0)
 
 
 def may_start(slot: Slot) -> bool:
-    """01: "not unbootable, and is successful or has tries above 0"."""
-    return not slot.unbootable and (slot.successful or slot.tries > 0)
+    """01: "not unbootable, and is successful or has tries above 0"; 02, CR 4: "A
+    corrupted slot may not start, successful or not"."""
+    return not slot.unbootable and not slot.corrupted and (slot.successful or slot.tries > 0)
+
+
+def is_candidate(slot: Slot) -> bool:
+    """01: a slot "that is successful and not unbootable", among those in use; 02, CR 4,
+    of a corrupted one: "it is no candidate"."""
+    return slot.used and slot.successful and not slot.unbootable and not slot.corrupted
 
 
 def first_other(record: Record) -> Optional[int]:
-    """01: "the first other slot in letter order that is successful and not
-    unbootable", from a on, among those in use."""
+    """01: "the first other slot in letter order" that is a candidate, from a on."""
     for i, slot in enumerate(record.slots):
-        if i != record.current and slot.used and slot.successful and not slot.unbootable:
+        if i != record.current and is_candidate(slot):
             return i
     return None
+
+
+def marked(slot: Slot) -> Slot:
+    """01: "it is marked unbootable, if it is not already"; 02, CR 4, of a corrupted one:
+    "Start marks it unbootable and clears its successful flag"."""
+    return slot._replace(unbootable=True, successful=slot.successful and not slot.corrupted)
 
 
 def started(record: Record, index: int) -> Record:
@@ -107,53 +123,56 @@ def started(record: Record, index: int) -> Record:
 
 
 def start(record: Record) -> Tuple[Answer, Record]:
-    """Start: the current slot, or else it is marked unbootable and the first
-    other one that qualifies starts; "If none is, the answer is Recovery, and
-    the mark stays."."""
+    """Start: the current slot, or else it is marked and the first other one that is a
+    candidate starts; "If none is, the answer is Recovery, and the mark stays."."""
     if not is_valid(record):
         return Refusal(31), record
     current = record.slots[record.current]
     if may_start(current):
         return Boots(record.current), started(record, record.current)
-    marked = with_slot(record, record.current, current._replace(unbootable=True))
-    other = first_other(marked)
+    left = with_slot(record, record.current, marked(current))
+    other = first_other(left)
     if other is None:
-        return Recovery(), marked
-    return Boots(other), started(marked, other)
+        return Recovery(), left
+    return Boots(other), started(left, other)
 
 
-def slot_number(record: Record, slot: int) -> int:
-    """31, then 32: "slot past d or not in use (set active, modified)"."""
+def on_slot(record: Record, slot: int, **changes: Any) -> Tuple[Answer, Record]:
+    """A slot with some of its values changed; or 31, then 32: "slot past d or not in use
+    (set active, modified)"; 02, CR 4: "the new operation gives 31, then 32."."""
     if not is_valid(record):
-        return 31
+        return Refusal(31), record
     if not is_used(record, slot):
-        return 32
-    return 0
+        return Refusal(32), record
+    return Done(), with_slot(record, slot, record.slots[slot]._replace(**changes))
 
 
 def set_active(record: Record, slot: int) -> Tuple[Answer, Record]:
-    """01: "The slot becomes current, both flags clear, tries 3."."""
-    number = slot_number(record, slot)
-    if number != 0:
-        return Refusal(number), record
-    active = Slot(True, False, False, NEW_TRIES)
-    return Done(), with_slot(record, slot, active)._replace(current=slot)
+    """01: "The slot becomes current, both flags clear, tries 3."; 02, CR 4: "Set active
+    and partition modified clear it."."""
+    answer, after = on_slot(
+        record, slot, unbootable=False, successful=False, corrupted=False, tries=NEW_TRIES
+    )
+    return answer, after if isinstance(answer, Refusal) else after._replace(current=slot)
 
 
 def modified(record: Record, slot: int) -> Tuple[Answer, Record]:
-    """01: "The slot's successful flag clears, tries 3. Unbootable stays."."""
-    number = slot_number(record, slot)
-    if number != 0:
-        return Refusal(number), record
-    changed = record.slots[slot]._replace(successful=False, tries=NEW_TRIES)
-    return Done(), with_slot(record, slot, changed)
+    """01: "The slot's successful flag clears, tries 3. Unbootable stays."; 02, CR 4: "Set
+    active and partition modified clear it."."""
+    return on_slot(record, slot, successful=False, corrupted=False, tries=NEW_TRIES)
+
+
+def corrupted(record: Record, slot: int) -> Tuple[Answer, Record]:
+    """02, CR 4: "A new operation sets the flag on any slot in use."."""
+    return on_slot(record, slot, corrupted=True)
 
 
 def confirm(record: Record) -> Tuple[Answer, Record]:
-    """01: "The current slot, if not unbootable, becomes successful."; else 33."""
+    """01: "The current slot, if not unbootable, becomes successful."; else 33; 02, CR 4:
+    "Confirming a corrupted slot gives 33."."""
     if not is_valid(record):
         return Refusal(31), record
     current = record.slots[record.current]
-    if current.unbootable:
+    if current.unbootable or current.corrupted:
         return Refusal(33), record
     return Done(), with_slot(record, record.current, current._replace(successful=True))

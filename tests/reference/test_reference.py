@@ -1,4 +1,4 @@
-"""Holds the reference program against document 01, and 02's change requests 2 and 3.
+"""Holds the reference program against document 01, and 02's change requests 2 to 4.
 
 Run by `python3 tests/reference/test_reference.py`.
 """
@@ -7,7 +7,7 @@ import itertools
 import random
 import unittest
 import unittest.mock
-from typing import List, Sequence
+from typing import Callable, List, Optional, Sequence, Tuple
 
 import boot
 import build
@@ -498,18 +498,19 @@ class TestMistakes(unittest.TestCase):
             self.assertEqual(store.store(image, OLD)[1], OLD)
 
     def test_modified_keeps_unbootable(self) -> None:
-        a, b = Slot(True, False, True, 3), Slot(True, True, False, 0)
+        a, b = Slot(True, False, True, False, 3), Slot(True, True, False, False, 0)
         record = Record((a, b, UNUSED, UNUSED), 0)
         answer, after = slots.modified(record, 1)
         self.assertEqual(answer, slots.Done())
-        self.assertEqual(after.slots[1], Slot(True, True, False, 3))
-        self.assertEqual(slots.set_active(record, 1)[1].slots[1], Slot(True, False, False, 3))
+        self.assertEqual(after.slots[1], Slot(True, True, False, False, 3))
+        active = slots.set_active(record, 1)[1]
+        self.assertEqual(active.slots[1], Slot(True, False, False, False, 3))
 
     def test_successful_slot_keeps_its_tries(self) -> None:
         for tries in range(8):
-            record = Record((Slot(True, False, True, tries),) + (UNUSED,) * 3, 0)
+            record = Record((Slot(True, False, True, False, tries),) + (UNUSED,) * 3, 0)
             self.assertEqual(slots.start(record), (slots.Boots(0), record))
-        a, b = Slot(True, False, False, 0), Slot(True, False, True, 2)
+        a, b = Slot(True, False, False, False, 0), Slot(True, False, True, False, 2)
         answer, after = slots.start(Record((a, b, UNUSED, UNUSED), 0))
         self.assertEqual((answer, after.slots[1].tries), (slots.Boots(1), 2))
 
@@ -747,7 +748,9 @@ class TestBoot(unittest.TestCase):
         self.check(build.boot_image(1, 1648, kernel=1), 26)
 
 
-UNUSED = Slot(False, False, False, 0)
+UNUSED = Slot(False, False, False, False, 0)
+SlotOperation = Callable[..., Tuple[slots.Answer, Record]]
+ON_SLOT: Tuple[SlotOperation, ...] = (slots.set_active, slots.modified, slots.corrupted)
 
 
 class TestSlots(unittest.TestCase):
@@ -755,7 +758,7 @@ class TestSlots(unittest.TestCase):
         return Record((a, b, UNUSED, UNUSED), current)
 
     def test_p12_p13(self) -> None:
-        a, b = Slot(True, False, False, 0), Slot(True, False, True, 3)
+        a, b = Slot(True, False, False, False, 0), Slot(True, False, True, False, 3)
         marked = a._replace(unbootable=True)
         self.assertEqual(
             slots.start(self.two(a, b)), (slots.Boots(1), self.two(marked, b, 1))
@@ -766,7 +769,7 @@ class TestSlots(unittest.TestCase):
         )
 
     def test_p14(self) -> None:
-        a = Slot(True, False, False, 1)
+        a = Slot(True, False, False, False, 1)
         spent = a._replace(tries=0)
         self.assertEqual(
             slots.start(self.two(a, UNUSED)), (slots.Boots(0), self.two(spent, UNUSED))
@@ -777,41 +780,41 @@ class TestSlots(unittest.TestCase):
             answer, record = slots.fresh(number)
             self.assertEqual(answer, slots.Done())
             self.assertEqual([slot.used for slot in record.slots], [i < number for i in range(4)])
-            self.assertTrue(all(slot[1:] == (False, False, 3) for slot in record.slots))
+            self.assertTrue(all(slot[1:] == (False, False, False, 3) for slot in record.slots))
             self.assertEqual(record.current, 0)
             self.assertTrue(slots.is_valid(record))
         for number in (0, 5, 255):
             self.assertEqual(slots.fresh(number), (slots.Refusal(31), Record((UNUSED,) * 4, 0)))
 
     def test_invalid(self) -> None:
-        good = Slot(True, False, False, 3)
+        good = Slot(True, False, False, False, 3)
         for record in (
             self.two(good, good, 2),
             self.two(good, good, 4),
             self.two(good, good, 255),
             self.two(good._replace(tries=8), good),
             self.two(good, good._replace(tries=8)),
-            self.two(good, Slot(True, True, True, 3)),
+            self.two(good, Slot(True, True, True, False, 3)),
         ):
             refused = (slots.Refusal(31), record)
             self.assertEqual(slots.start(record), refused)
             self.assertEqual(slots.confirm(record), refused)
             for slot in (0, 1, 2, 4):
-                self.assertEqual(slots.set_active(record, slot), refused)
-                self.assertEqual(slots.modified(record, slot), refused)
+                for operation in ON_SLOT:
+                    self.assertEqual(operation(record, slot), refused)
 
     def test_unused_places_are_ignored_and_kept(self) -> None:
-        good, odd = Slot(True, False, False, 3), Slot(False, True, True, 200)
+        good, odd = Slot(True, False, False, False, 3), Slot(False, True, True, True, 200)
         record = Record((odd, good, odd, odd), 1)
         answer, after = slots.start(record)
         self.assertEqual(answer, slots.Boots(1))
         self.assertEqual(after, Record((odd, good._replace(tries=2), odd, odd), 1))
-        strong = Slot(False, False, True, 3)
+        strong = Slot(False, False, True, False, 3)
         empty = Record((strong, good._replace(tries=0), strong, strong), 1)
         self.assertEqual(slots.start(empty)[0], slots.Recovery())
 
     def test_unbootable_slot_never_starts(self) -> None:
-        broken, strong = Slot(True, True, False, 3), Slot(True, False, True, 0)
+        broken, strong = Slot(True, True, False, False, 3), Slot(True, False, True, False, 0)
         self.assertEqual(
             slots.start(self.two(broken, UNUSED)), (slots.Recovery(), self.two(broken, UNUSED))
         )
@@ -820,7 +823,7 @@ class TestSlots(unittest.TestCase):
         )
 
     def test_search_is_in_letter_order(self) -> None:
-        tired, strong = Slot(True, False, False, 0), Slot(True, False, True, 0)
+        tired, strong = Slot(True, False, False, False, 0), Slot(True, False, True, False, 0)
         record = Record((strong, strong, tired, strong), 2)
         self.assertEqual(slots.start(record)[0], slots.Boots(0))
         record = Record((tired, strong, tired, strong), 2)
@@ -829,18 +832,200 @@ class TestSlots(unittest.TestCase):
         self.assertEqual(slots.start(record)[0], slots.Boots(3))
 
     def test_slot_refusals(self) -> None:
-        good = Slot(True, False, False, 3)
+        good = Slot(True, False, False, False, 3)
         record = self.two(good, good)
         for slot in (2, 3, 4, 255):
-            self.assertEqual(slots.set_active(record, slot), (slots.Refusal(32), record))
-            self.assertEqual(slots.modified(record, slot), (slots.Refusal(32), record))
+            for operation in ON_SLOT:
+                self.assertEqual(operation(record, slot), (slots.Refusal(32), record))
 
     def test_confirm(self) -> None:
-        a, b = Slot(True, False, False, 2), Slot(True, True, False, 2)
+        a, b = Slot(True, False, False, False, 2), Slot(True, True, False, False, 2)
         sure = a._replace(successful=True)
         self.assertEqual(slots.confirm(self.two(a, b)), (slots.Done(), self.two(sure, b)))
         bad = self.two(a, b, 1)
         self.assertEqual(slots.confirm(bad), (slots.Refusal(33), bad))
+
+
+GOOD = Slot(True, False, False, False, 3)
+SURE = GOOD._replace(successful=True)
+TIRED = GOOD._replace(tries=0)
+DEAD = GOOD._replace(unbootable=True)
+CORRUPTED = GOOD._replace(corrupted=True)
+CORRUPTED_SURE = SURE._replace(corrupted=True)
+CORRUPTED_DEAD = DEAD._replace(corrupted=True)
+
+
+class TestCorruptedSlots(unittest.TestCase):
+    """02, CR 4, sentence by sentence."""
+
+    def test_each_slot_has_the_flag(self) -> None:
+        """Whatever else a slot is; it makes no record invalid."""
+        for slot in (CORRUPTED, CORRUPTED_SURE, CORRUPTED_DEAD):
+            for i in range(4):
+                record = slots.with_slot(Record((GOOD,) * 4, 0), i, slot)
+                self.assertTrue(slots.is_valid(record))
+        self.assertTrue(slots.is_valid(Record((CORRUPTED_SURE,) * 4, 3)))
+
+    def test_unbootable_and_successful_stays_invalid(self) -> None:
+        both = CORRUPTED_SURE._replace(unbootable=True)
+        record = Record((GOOD, both, UNUSED, UNUSED), 0)
+        for answer in (slots.start(record), slots.confirm(record), slots.corrupted(record, 0)):
+            self.assertEqual(answer, (slots.Refusal(31), record))
+        unused = Record((GOOD, both._replace(used=False), UNUSED, UNUSED), 0)
+        self.assertTrue(slots.is_valid(unused))
+
+    def test_successful_current_slot_does_not_start(self) -> None:
+        """It is marked, its successful flag clears, corrupted and tries stay."""
+        record = Record((CORRUPTED_SURE, SURE, UNUSED, UNUSED), 0)
+        after = Record((CORRUPTED_DEAD, SURE, UNUSED, UNUSED), 1)
+        self.assertEqual(slots.start(record), (slots.Boots(1), after))
+
+    def test_current_slot_with_tries_does_not_start(self) -> None:
+        """It loses no try."""
+        for tries in range(8):
+            slot = CORRUPTED._replace(tries=tries)
+            record = Record((SURE, UNUSED, slot, UNUSED), 2)
+            after = Record((SURE, UNUSED, slot._replace(unbootable=True), UNUSED), 0)
+            self.assertEqual(slots.start(record), (slots.Boots(0), after))
+
+    def test_recovery_keeps_the_marks(self) -> None:
+        """Without a candidate; started again, the answer is the same and nothing changes."""
+        for slot in (CORRUPTED, CORRUPTED_SURE, CORRUPTED_DEAD):
+            record = Record((GOOD, slot, DEAD, UNUSED), 1)
+            after = Record((GOOD, CORRUPTED_DEAD, DEAD, UNUSED), 1)
+            self.assertEqual(slots.start(record), (slots.Recovery(), after))
+            self.assertEqual(slots.start(after), (slots.Recovery(), after))
+
+    def test_no_candidate_at_each_place(self) -> None:
+        """A corrupted successful slot is passed over, and keeps its flags."""
+        for current, corrupted in itertools.permutations(range(4), 2):
+            places = [SURE] * 4
+            places[current], places[corrupted] = TIRED, CORRUPTED_SURE
+            answer, after = slots.start(Record(tuple(places), current))
+            places[current] = TIRED._replace(unbootable=True)
+            first = next(i for i in range(4) if places[i] == SURE)
+            self.assertEqual((answer, after), (slots.Boots(first), Record(tuple(places), first)))
+        record = Record((CORRUPTED_SURE,) * 3 + (TIRED,), 3)
+        self.assertEqual(slots.start(record)[0], slots.Recovery())
+
+    def test_not_current_keeps_its_flags(self) -> None:
+        record = Record((SURE, CORRUPTED_SURE, CORRUPTED, CORRUPTED_DEAD), 0)
+        self.assertEqual(slots.start(record), (slots.Boots(0), record))
+        self.assertEqual(slots.confirm(record), (slots.Done(), record))
+
+    def test_operation_sets_the_flag_alone(self) -> None:
+        """On any slot in use, current or not; where it is set already, it is done again."""
+        for slot in (GOOD, SURE, TIRED, DEAD, CORRUPTED, CORRUPTED_SURE, CORRUPTED_DEAD):
+            for i, current in itertools.product(range(4), range(4)):
+                record = slots.with_slot(Record((GOOD,) * 4, current), i, slot)
+                after = slots.with_slot(record, i, slot._replace(corrupted=True))
+                self.assertEqual(slots.corrupted(record, i), (slots.Done(), after))
+                self.assertEqual(slots.corrupted(after, i), (slots.Done(), after))
+
+    def test_set_active_clears_it(self) -> None:
+        for slot in (CORRUPTED._replace(tries=0), CORRUPTED_SURE, CORRUPTED_DEAD):
+            record = Record((CORRUPTED_SURE, slot, UNUSED, UNUSED), 0)
+            after = Record((CORRUPTED_SURE, GOOD, UNUSED, UNUSED), 1)
+            self.assertEqual(slots.set_active(record, 1), (slots.Done(), after))
+
+    def test_modified_clears_it(self) -> None:
+        """But not unbootable."""
+        tired = CORRUPTED._replace(tries=0)
+        for slot, changed in ((tired, GOOD), (CORRUPTED_SURE, GOOD), (CORRUPTED_DEAD, DEAD)):
+            record = Record((CORRUPTED_SURE, slot, UNUSED, UNUSED), 0)
+            after = Record((CORRUPTED_SURE, changed, UNUSED, UNUSED), 0)
+            self.assertEqual(slots.modified(record, 1), (slots.Done(), after))
+
+    def test_confirming_gives_33(self) -> None:
+        for slot in (CORRUPTED, CORRUPTED_SURE, CORRUPTED_DEAD):
+            record = Record((GOOD, slot, UNUSED, UNUSED), 1)
+            self.assertEqual(slots.confirm(record), (slots.Refusal(33), record))
+            broken = record._replace(slots=(GOOD._replace(tries=8),) + record.slots[1:])
+            self.assertEqual(slots.confirm(broken), (slots.Refusal(31), broken))
+
+    def test_fresh_record_has_it_clear(self) -> None:
+        """In all four places, also beside the refusal."""
+        for number in range(7):
+            _, record = slots.fresh(number)
+            self.assertEqual([slot.corrupted for slot in record.slots], [False] * 4)
+
+    def test_31_then_32(self) -> None:
+        valid = Record((GOOD, UNUSED, CORRUPTED, UNUSED), 2)
+        invalid = valid._replace(current=1)
+        for slot in (1, 3, 4, 255, 256, 2**32 - 1):
+            self.assertEqual(slots.corrupted(valid, slot), (slots.Refusal(32), valid))
+        for slot in (0, 1, 2, 3, 4, 255, 256, 2**32 - 1):
+            self.assertEqual(slots.corrupted(invalid, slot), (slots.Refusal(31), invalid))
+
+    def test_unused_places_are_ignored_and_kept(self) -> None:
+        odd, dead = Slot(False, True, True, True, 200), TIRED._replace(unbootable=True)
+        record = Record((odd, SURE, odd, TIRED), 3)
+        after = Record((odd, SURE, odd, dead), 1)
+        self.assertEqual(slots.start(record), (slots.Boots(1), after))
+        after = Record((odd, CORRUPTED_SURE, odd, TIRED), 3)
+        self.assertEqual(slots.corrupted(record, 1), (slots.Done(), after))
+
+    def test_a_slot_is_repaired(self) -> None:
+        """Corrupted while it runs, given up, written anew, made active, confirmed."""
+        _, record = slots.corrupted(Record((SURE, SURE, UNUSED, UNUSED), 0), 0)
+        answer, record = slots.start(record)
+        self.assertEqual((answer, record.slots[0]), (slots.Boots(1), CORRUPTED_DEAD))
+        _, record = slots.modified(record, 0)
+        self.assertEqual((record.slots[0], record.current), (DEAD, 1))
+        _, record = slots.set_active(record, 0)
+        self.assertEqual(slots.start(record)[0], slots.Boots(0))
+        answer, record = slots.confirm(record)
+        self.assertEqual((answer, record.slots[:2]), (slots.Done(), (SURE, SURE)))
+
+
+class TestSlotStatements(unittest.TestCase):
+    """02, CR 4: "all slot statements hold over the new record": what each operation may
+    change, over records with all flags."""
+
+    def check(self, record: Record, slot: Optional[int], of: SlotOperation) -> None:
+        """The laws of one operation, on a slot or on the current one."""
+        answer, after = of(record) if slot is None else of(record, slot)
+        if isinstance(answer, slots.Refusal):
+            self.assertEqual(after, record)
+            return
+        self.assertTrue(slots.is_valid(record) and slots.is_valid(after))
+        if of not in (slots.start, slots.set_active):
+            self.assertEqual(after.current, record.current)
+        if isinstance(answer, slots.Boots):
+            first = after.slots[answer.slot]
+            self.assertEqual(after.current, answer.slot)
+            self.assertTrue(first.used and not first.unbootable and not first.corrupted)
+        for i, (old, new) in enumerate(zip(record.slots, after.slots)):
+            self.assertTrue(old == new or i == (record.current if slot is None else slot))
+            self.check_flags(old, new, of)
+
+    def check_flags(self, old: Slot, new: Slot, of: SlotOperation) -> None:
+        """Which operation may set or clear which flag, and change tries."""
+        def allowed(happens: bool, *operations: SlotOperation) -> None:
+            self.assertTrue(not happens or (old.used and of in operations))
+        self.assertEqual(old.used, new.used)
+        allowed(new.unbootable and not old.unbootable, slots.start)
+        allowed(old.unbootable and not new.unbootable, slots.set_active)
+        allowed(new.successful and not old.successful, slots.confirm)
+        allowed(new.corrupted and not old.corrupted, slots.corrupted)
+        allowed(old.corrupted and not new.corrupted, slots.set_active, slots.modified)
+        is_given_up = old.successful and old.corrupted and new.unbootable
+        clearing = (slots.set_active, slots.modified) + ((slots.start,) if is_given_up else ())
+        allowed(old.successful and not new.successful, *clearing)
+        is_tried = new.tries == old.tries - 1 and not old.successful
+        spending = (slots.start,) if is_tried else (slots.set_active, slots.modified)
+        allowed(new.tries != old.tries, *spending)
+
+    def test_all_flags(self) -> None:
+        flags = itertools.product((False, True), repeat=3)
+        places = [Slot(True, *state, tries) for state in flags for tries in (0, 1, 3, 7, 8)]
+        odd = Slot(False, False, True, True, 9)
+        for a, b, current in itertools.product(places, places, (0, 2)):
+            record = Record((a, odd, b, UNUSED), current)
+            self.check(record, None, slots.start)
+            self.check(record, None, slots.confirm)
+            for slot, operation in itertools.product((0, 1, 2, 4), ON_SLOT):
+                self.check(record, slot, operation)
 
 
 class TestLister(unittest.TestCase):

@@ -1,11 +1,12 @@
 """Reads the vectors' files as their format says and works the lines out anew."""
 
+import itertools
 import os
 import struct
 import tempfile
 import unittest
 import unittest.mock
-from typing import Callable, Dict, Iterator, List, Tuple
+from typing import Any, Callable, Dict, Iterator, List, Set, Tuple
 
 import build
 import cases_boot
@@ -13,6 +14,7 @@ import cases_common
 import cases_slots
 import crc
 import fields
+import slots
 import sparse
 import store
 import vectors
@@ -26,8 +28,13 @@ LARGEST_STORED_IMAGE = 8192
 LARGEST_PARTITION = 4096
 LARGEST_WRITTEN = 69632
 LARGEST_OUTPUT = 450_000
+RECORD = 21
+RECORD_SLOT = 5
+RECORD_CURRENT = 20
+SLOT_TRIES = 4
 
 Lines = Iterator[Tuple[int, ...]]
+Changed = Tuple[slots.Answer, Record]
 
 
 def refusal_values(verdict: sparse.Verdict) -> Tuple[int, ...]:
@@ -67,19 +74,38 @@ def field_lines(data: bytes) -> Lines:
         yield reads + tuple(crc.checksum_by_bits(after) for after in writes)
 
 
+def slot_record(data: bytes) -> Record:
+    """The record that stands in some bytes."""
+    assert len(data) == RECORD
+    starts = range(0, RECORD_CURRENT, RECORD_SLOT)
+    assert all(flag <= 1 for at in starts for flag in data[at:at + SLOT_TRIES])
+    a, b, c, d = (
+        Slot(*(flag == 1 for flag in data[at:at + SLOT_TRIES]), data[at + SLOT_TRIES])
+        for at in starts
+    )
+    return Record((a, b, c, d), data[RECORD_CURRENT])
+
+
+def slot_cases(data: bytes) -> Iterator[cases_slots.Case]:
+    for at in range(0, len(data), 2 + RECORD):
+        record = slot_record(data[at + 2:at + 2 + RECORD])
+        yield cases_slots.Case(data[at], data[at + 1], record)
+
+
 def slot_lines(data: bytes) -> Lines:
-    for at in range(0, len(data), 19):
-        numbers = data[at + 2:at + 19]
-        places = [numbers[i:i + 4] for i in range(0, 16, 4)]
-        a, b, c, d = (Slot(p[0] == 1, p[1] == 1, p[2] == 1, p[3]) for p in places)
-        record = Record((a, b, c, d), numbers[16])
-        yield cases_slots.values(cases_slots.Case(data[at], data[at + 1], record))
+    for case in slot_cases(data):
+        yield cases_slots.values(case)
 
 
 def slot_sum_lines(data: bytes) -> Lines:
-    lines = list(slot_lines(data))
-    for at in range(0, len(lines), 64):
-        yield (crc.checksum(bytes(value for line in lines[at:at + 64] for value in line)),)
+    for start in range(0, len(data), 64 * RECORD):
+        state = crc.ALL_ONES
+        for at in range(start, min(start + 64 * RECORD, len(data)), RECORD):
+            record = slot_record(data[at:at + RECORD])
+            for operation, argument in itertools.product(range(6), range(5)):
+                case = cases_slots.Case(operation, argument, record)
+                state = crc.after_bytes(state, bytes(cases_slots.values(case)))
+        yield (state ^ crc.ALL_ONES,)
 
 
 def boot_lines(data: bytes) -> Lines:
@@ -218,6 +244,67 @@ READERS: Dict[str, Callable[[bytes], Lines]] = {
 }
 
 
+# Wrong rules, each in the place of a function of the reference.
+
+right_fresh = slots.fresh
+
+
+def unused_before_invalid(record: Record, slot: int, **changes: Any) -> Changed:
+    """32, then 31."""
+    if not slots.is_used(record, slot):
+        return slots.Refusal(32), record
+    if not slots.is_valid(record):
+        return slots.Refusal(31), record
+    return slots.Done(), slots.with_slot(record, slot, record.slots[slot]._replace(**changes))
+
+
+def any_place_corrupted(record: Record, slot: int) -> Changed:
+    """Sets the flag of a place that is not in use too."""
+    if not slots.is_valid(record) or slot >= slots.PLACES:
+        return slots.on_slot(record, slot)
+    return slots.Done(), slots.with_slot(record, slot, record.slots[slot]._replace(corrupted=True))
+
+
+def flag_stays_active(record: Record, slot: int) -> Changed:
+    """Set active that leaves the flag."""
+    answer, after = slots.on_slot(record, slot, unbootable=False, successful=False, tries=3)
+    return answer, after if isinstance(answer, slots.Refusal) else after._replace(current=slot)
+
+
+def confirm_of_corrupted(record: Record) -> Changed:
+    """Confirm that looks at unbootable alone."""
+    if not slots.is_valid(record):
+        return slots.Refusal(31), record
+    current = record.slots[record.current]
+    if current.unbootable:
+        return slots.Refusal(33), record
+    return slots.Done(), slots.with_slot(record, record.current, current._replace(successful=True))
+
+
+def fresh_corrupted(number: int) -> Changed:
+    """A fresh record with the flag set in its last place."""
+    answer, record = right_fresh(number)
+    return answer, slots.with_slot(record, 3, record.slots[3]._replace(corrupted=True))
+
+
+WRONG_RULES: Tuple[Tuple[str, Callable[..., Any]], ...] = (
+    ("may_start", lambda slot: not slot.unbootable and (slot.successful or slot.tries > 0)),
+    ("may_start", lambda slot: slot.successful or (
+        slot.tries > 0 and not slot.unbootable and not slot.corrupted)),
+    ("is_candidate", lambda slot: slot.used and slot.successful and not slot.unbootable),
+    ("marked", lambda slot: slot._replace(unbootable=True)),
+    ("marked", lambda slot: slot._replace(unbootable=True, successful=False, corrupted=False)),
+    ("corrupted", any_place_corrupted),
+    ("corrupted", lambda *of: slots.on_slot(*of, corrupted=True, successful=False)),
+    ("corrupted", lambda *of: slots.on_slot(*of, corrupted=True, tries=0)),
+    ("modified", lambda *of: slots.on_slot(*of, successful=False, tries=3)),
+    ("set_active", flag_stays_active),
+    ("confirm", confirm_of_corrupted),
+    ("fresh", fresh_corrupted),
+    ("on_slot", unused_before_invalid),
+)
+
+
 class TestVectors(unittest.TestCase):
     names: List[str]
     made: Dict[str, bytes]
@@ -267,6 +354,70 @@ class TestVectors(unittest.TestCase):
                 and len({0, verdict.written, verdict.dont_care, verdict.unknown}) == 4
             ]
             self.assertGreater(len(found), 100, name)
+
+    def slot_answers(self) -> List[Tuple[cases_slots.Case, Tuple[int, ...]]]:
+        """The cases of `slots` with their values."""
+        data = self.made[os.path.join("data", "slots.bin")]
+        return [(case, cases_slots.values(case)) for case in slot_cases(data)]
+
+    def test_corrupted_current_slot(self) -> None:
+        """A corrupted current slot is started from and confirmed, whatever its other flags."""
+        starts, confirms = set(), set()
+        for case, (number, kind, *_) in self.slot_answers():
+            if number in (0, 33) and case.record.slots[case.record.current].corrupted:
+                slot = case.record.slots[case.record.current]
+                if case.operation == cases_slots.START:
+                    starts.add((slot.unbootable, slot.successful, kind))
+                if case.operation == cases_slots.CONFIRM:
+                    confirms.add((slot.unbootable, slot.successful, number))
+        flags = ((False, False), (False, True), (True, False))
+        kinds = (cases_slots.BOOTS, cases_slots.RECOVERY)
+        self.assertEqual(starts, {(*pair, kind) for pair in flags for kind in kinds})
+        self.assertEqual(confirms, {(*pair, 33) for pair in flags})
+
+    def test_corrupted_slots_passed_over(self) -> None:
+        """At each place, and before a candidate at each later place, d being the last."""
+        found = set()
+        for case, (number, kind, slot, *_) in self.slot_answers():
+            if case.operation == cases_slots.START and slot != case.record.current:
+                passed = [i for i in range(slot) if case.record.slots[i].corrupted]
+                found |= {(i, slot) for i in passed if i != case.record.current}
+        self.assertEqual(found, {(i, slot) for slot in range(4) for i in range(slot)})
+
+    def test_corrupted_operation(self) -> None:
+        """The new operation on slots in use, not in use and past d, and refused for the
+        record, with slots of each kind."""
+        found: Dict[int, Set[Tuple[int, bool]]] = {0: set(), 31: set(), 32: set()}
+        for case, (number, *_) in self.slot_answers():
+            if case.operation == cases_slots.CORRUPTED:
+                is_used = slots.is_used(case.record, case.argument)
+                found[number].add((case.argument, is_used))
+        self.assertEqual(found[0], {(slot, True) for slot in range(4)})
+        self.assertEqual(found[32], {(slot, False) for slot in (0, 1, 2, 3, 4, 255)})
+        self.assertLessEqual({(0, True), (0, False), (2, True), (2, False), (4, False)}, found[31])
+
+    def test_summed_records(self) -> None:
+        """Two slots with all flags and several tries, either current; then records that are
+        mostly valid, with any flags at each place, used or not."""
+        data = self.made[os.path.join("data", "slotsum.bin")]
+        records = [slot_record(data[at:at + RECORD]) for at in range(0, len(data), RECORD)]
+        pairs = {(record.slots[:2], record.current) for record in records[:3200]}
+        self.assertEqual(len(pairs), 3200)
+        places = [enumerate(record.slots) for record in records[3200:]]
+        found = {(i, slot[:SLOT_TRIES]) for place in places for i, slot in place}
+        self.assertEqual(len(found), slots.PLACES * 2**SLOT_TRIES)
+        valid = [record for record in records[3200:] if slots.is_valid(record)]
+        self.assertGreater(len(valid), 6000)
+
+    def test_wrong_slot_rules_are_seen(self) -> None:
+        """Each changes a line of `slots` and a checksum of the last records of `slotsum`."""
+        shown = self.made[os.path.join("data", "slots.bin")]
+        summed = self.made[os.path.join("data", "slotsum.bin")][-4 * 64 * RECORD:]
+        lines, sums = list(slot_lines(shown)), list(slot_sum_lines(summed))
+        for i, (name, wrong) in enumerate(WRONG_RULES):
+            with self.subTest(i), unittest.mock.patch.object(slots, name, wrong):
+                self.assertNotEqual(list(slot_lines(shown)), lines)
+                self.assertNotEqual(list(slot_sum_lines(summed)), sums)
 
     def test_patches_give_the_image(self) -> None:
         images = (b"", bytes(9), b"\x01", bytes(8) + b"\x01" + bytes(9) + b"\x02\0")

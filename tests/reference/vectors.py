@@ -12,7 +12,7 @@ Each group is one file, data/GROUP.bin, of at most 262,144 bytes: its cases,
 one directly after the other, up to the end of the file.  All numbers are
 unsigned, low byte first; u8, u32 and u64 have 1, 4 and 8 bytes.  Nothing is
 aligned.  The program takes the groups in the order of GROUPS below and prints
-for each case (for each block of cases in `slotsum`) one line:
+for each case (for each block of them in `slotsum`) one line:
 
     GROUP INDEX VALUE VALUE ...
 
@@ -38,20 +38,25 @@ fields   case:  at u64, value u64, len u32, len bytes (len at most 20)
                 `at`, each into the bytes as given.  A write that does not fit
                 whole changes nothing.
 
-slots    case:  operation u8, argument u8, record of 17 u8; 19 bytes in all
+slots    case:  operation u8, argument u8, record of 21 u8; 23 bytes in all
          operation: 0 fresh (argument: number of slots; a refusal leaves the record),
                 1 start, 2 set active (argument: slot), 3 modified (argument:
-                slot), 4 confirm; the argument of 1 and 4 is 0.
-         record: used, unbootable, successful (0 or 1 each) and tries, for a,
-                b, c and d in turn; then the current slot (0 for a).
+                slot), 4 confirm, 5 corrupted (argument: slot); the argument of
+                1 and 4 is 0.
+         record: used, unbootable, successful, corrupted (0 or 1 each) and tries,
+                for a, b, c and d in turn; then the current slot (0 for a).
          values: NUMBER of the refusal or 0; KIND 0 done, 1 boots, 2 recovery,
-                3 refused; the started SLOT, 0 unless it boots; the 17 values
+                3 refused; the started SLOT, 0 unless it boots; the 21 values
                 of the record after.
 
-slotsum  case:  as in `slots`.  One line for each block of 64 cases, the last
-                block being shorter when they do not come out even.
-         values: CHECKSUM of the block's values, 20 bytes a case: number, kind,
-                slot and record as in `slots`, a byte each.
+slotsum  case:  record of 21 u8 as in `slots`.  One line for each block of 64
+                records, the last block being shorter when they do not come out
+                even.
+         values: CHECKSUM of the values, a byte each, for each record of the block
+                in turn, for each operation 0 to 5 in turn, for each argument 0
+                to 4 in turn: the 24 values as in `slots` of that operation with
+                that argument on the record as it stands in the file.  Start and
+                confirm do not look at the argument.
 
 An image is kept as patches over zeros:
 

@@ -13,27 +13,28 @@ use Rattle.slot_rules.specs.Records.{slotAt}
 use Rattle.slot_bytes.specs.Record.{flag, slotBytes, recordBytes, at, slotFrom, recordOf, areFlags, isRecord}
 
 -- a slot's bytes, stored one by one
-stored : (b : List ℕ) (i : ℕ) (s : Slot) {u n f : ℕ} → u ≡ flag (s .used) → n ≡ flag (s .unbootable) → f ≡ flag (s .successful) → set (set (set (set b i u) (i + 1) n) (i + 2) f) (i + 3) (s .tries) ≡ sets b i (slotBytes s)
-stored b i s eu en ef =
+stored : (b : List ℕ) (i : ℕ) (s : Slot) {u n f c : ℕ} → u ≡ flag (s .used) → n ≡ flag (s .unbootable) → f ≡ flag (s .successful) → c ≡ flag (s .corrupted) → set (set (set (set (set b i u) (i + 1) n) (i + 2) f) (i + 3) c) (i + 4) (s .tries) ≡ sets b i (slotBytes s)
+stored b i s eu en ef ec =
     let one : i + 1 ≡ suc i = omega arith in
     let two : i + 2 ≡ suc (suc i) = omega arith in
     let three : i + 3 ≡ suc (suc (suc i)) = omega arith in
-    rw (eu, en, ef, one, two, three)
+    let four : i + 4 ≡ suc (suc (suc (suc i))) = omega arith in
+    rw (eu, en, ef, ec, one, two, three, four)
 
-pub put : (b : List ℕ) (r : Record) (k : ℕ) {u n f : ℕ} → u ≡ flag (slotAt r k .used) → n ≡ flag (slotAt r k .unbootable) → f ≡ flag (slotAt r k .successful) → set (set (set (set b (k * 4) u) (k * 4 + 1) n) (k * 4 + 2) f) (k * 4 + 3) (slotAt r k .tries) ≡ sets b (k * 4) (slotBytes (slotAt r k))
-put b r k eu en ef = stored b (k * 4) (slotAt r k) eu en ef
+pub put : (b : List ℕ) (r : Record) (k : ℕ) {u n f c : ℕ} → u ≡ flag (slotAt r k .used) → n ≡ flag (slotAt r k .unbootable) → f ≡ flag (slotAt r k .successful) → c ≡ flag (slotAt r k .corrupted) → set (set (set (set (set b (k * 5) u) (k * 5 + 1) n) (k * 5 + 2) f) (k * 5 + 3) c) (k * 5 + 4) (slotAt r k .tries) ≡ sets b (k * 5) (slotBytes (slotAt r k))
+put b r k eu en ef ec = stored b (k * 5) (slotAt r k) eu en ef ec
 
 -- a record's bytes, slot by slot
-pub joined : (r : Record) (a b c d : List ℕ) → a ≡ sets (replicate 17 0) 0 (slotBytes (slotAt r 0)) → b ≡ sets a 4 (slotBytes (slotAt r 1)) → c ≡ sets b 8 (slotBytes (slotAt r 2)) → d ≡ sets c 12 (slotBytes (slotAt r 3)) → set d 16 (r .current) ≡ recordBytes r
+pub joined : (r : Record) (a b c d : List ℕ) → a ≡ sets (replicate 21 0) 0 (slotBytes (slotAt r 0)) → b ≡ sets a 5 (slotBytes (slotAt r 1)) → c ≡ sets b 10 (slotBytes (slotAt r 2)) → d ≡ sets c 15 (slotBytes (slotAt r 3)) → set d 20 (r .current) ≡ recordBytes r
 unfolding recordBytes
 joined r a b c d ea eb ec ed = rw (ed, ec, eb, ea)
 
 -- bytes are a record where the flags of each slot are
-pub all-flags : (x : List ℕ) {a b c d : Bool} → a ≡ areFlags x 0 → b ≡ areFlags x 4 → c ≡ areFlags x 8 → d ≡ areFlags x 12 → (a && b && c && d) ≡ isRecord x
+pub all-flags : (x : List ℕ) {a b c d : Bool} → a ≡ areFlags x 0 → b ≡ areFlags x 5 → c ≡ areFlags x 10 → d ≡ areFlags x 15 → (a && b && c && d) ≡ isRecord x
 unfolding isRecord
 all-flags x ea eb ec ed = rw (ea, eb, ec, ed)
 
 -- the record that bytes say, by its slots
-pub by-slots : (x : List ℕ) {a b c d : Slot} → a ≡ slotFrom x 0 → b ≡ slotFrom x 4 → c ≡ slotFrom x 8 → d ≡ slotFrom x 12 → _≡_ {A = Record} (record { slots = a ∷ b ∷ c ∷ d ∷ []; current = at x 16 }) (recordOf x)
+pub by-slots : (x : List ℕ) {a b c d : Slot} → a ≡ slotFrom x 0 → b ≡ slotFrom x 5 → c ≡ slotFrom x 10 → d ≡ slotFrom x 15 → _≡_ {A = Record} (record { slots = a ∷ b ∷ c ∷ d ∷ []; current = at x 20 }) (recordOf x)
 unfolding recordOf
 by-slots x ea eb ec ed = rw (ea, eb, ec, ed)

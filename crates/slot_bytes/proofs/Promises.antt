@@ -12,7 +12,6 @@ use Rattle.slot_rules.specs.declared.Slot.{Slot}
 use Rattle.slot_rules.specs.declared.Record.{Record}
 use Rattle.slot_rules.specs.OneSlot.{newSlot}
 use Rattle.slot_rules.specs.Records.{slotAt}
-use Rattle.slot_rules.proofs.Tests.{and-left, and-right}
 use Rattle.slot_bytes.specs.Record.{flag, slotBytes, recordBytes, slotFrom, at, recordOf, areFlags, isRecord}
 use Rattle.slot_bytes.specs.Promises.{InBytes, Promises}
 
@@ -49,20 +48,26 @@ flag-kept zero e = refl
 flag-kept (suc zero) e = refl
 flag-kept (suc (suc n)) e = absurd (omega (arith, leb-true (suc (suc n)) 1 e))
 
+-- four tests that hold together
+all-four : (a b c d : Bool) → (a && b && c && d) ≡ true → (a ≡ true) × (b ≡ true) × (c ≡ true) × (d ≡ true)
+all-four true true true true e = (refl, refl, refl, refl)
+all-four false b c d e = (cc, cc, cc, cc)
+all-four true false c d e = (cc, cc, cc, cc)
+all-four true true false d e = (cc, cc, cc, cc)
+all-four true true true false e = (cc, cc, cc, cc)
+
 -- a slot that is written is read as itself
 slot-again : (s : Slot) → slotFrom (slotBytes s) 0 ≡ s
-slot-again s = rw (flag-again (s .used), flag-again (s .unbootable), flag-again (s .successful))
+slot-again s = rw (flag-again (s .used), flag-again (s .unbootable), flag-again (s .successful), flag-again (s .corrupted))
 
 slot-right : (s : Slot) → areFlags (slotBytes s) 0 ≡ true
-slot-right s = rw (flag-right (s .used), flag-right (s .unbootable), flag-right (s .successful))
+slot-right s = rw (flag-right (s .used), flag-right (s .unbootable), flag-right (s .successful), flag-right (s .corrupted))
 
--- a slot that is written after it was read from i on, where its three flag bytes are flags, is those bytes
-slot-kept : (b : List ℕ) (i : ℕ) → areFlags b i ≡ true → slotBytes (slotFrom b i) ≡ at b i ∷ at b (i + 1) ∷ at b (i + 2) ∷ at b (i + 3) ∷ []
+-- a slot that is written after it was read from i on, where its four flag bytes are flags, is those bytes
+slot-kept : (b : List ℕ) (i : ℕ) → areFlags b i ≡ true → slotBytes (slotFrom b i) ≡ at b i ∷ at b (i + 1) ∷ at b (i + 2) ∷ at b (i + 3) ∷ at b (i + 4) ∷ []
 slot-kept b i e =
-    let u : flag (eqb (at b i) 1) ≡ at b i = flag-kept (at b i) (and-left (leb (at b i) 1) (leb (at b (i + 1)) 1) (and-left (leb (at b i) 1 && leb (at b (i + 1)) 1) (leb (at b (i + 2)) 1) e)) in
-    let n : flag (eqb (at b (i + 1)) 1) ≡ at b (i + 1) = flag-kept (at b (i + 1)) (and-right (leb (at b i) 1) (leb (at b (i + 1)) 1) (and-left (leb (at b i) 1 && leb (at b (i + 1)) 1) (leb (at b (i + 2)) 1) e)) in
-    let s : flag (eqb (at b (i + 2)) 1) ≡ at b (i + 2) = flag-kept (at b (i + 2)) (and-right (leb (at b i) 1 && leb (at b (i + 1)) 1) (leb (at b (i + 2)) 1) e) in
-    cc
+    let h : _ = all-four (leb (at b i) 1) (leb (at b (i + 1)) 1) (leb (at b (i + 2)) 1) (leb (at b (i + 3)) 1) e in
+    rw (flag-kept (at b i) (h .0), flag-kept (at b (i + 1)) (h .1), flag-kept (at b (i + 2)) (h .2), flag-kept (at b (i + 3)) (h .3))
 
 -- a record with its slots one by one
 opened : (r : Record) → length (r .slots) ≡ 4 → r .slots ≡ slotAt r 0 ∷ slotAt r 1 ∷ slotAt r 2 ∷ slotAt r 3 ∷ []
@@ -84,20 +89,12 @@ right r = rw (slot-right (slotAt r 0), slot-right (slotAt r 1), slot-right (slot
 parts : (t : List ℕ) {p p' q q' r r' s s' : List ℕ} → p ≡ p' → q ≡ q' → r ≡ r' → s ≡ s' → p ++ (q ++ (r ++ (s ++ t))) ≡ p' ++ (q' ++ (r' ++ (s' ++ t)))
 parts t ep eq er es = rw (ep, eq, er, es)
 
--- four tests that hold together
-all-four : (a b c d : Bool) → (a && b && c && d) ≡ true → (a ≡ true) × (b ≡ true) × (c ≡ true) × (d ≡ true)
-all-four true true true true e = (refl, refl, refl, refl)
-all-four false b c d e = (cc, cc, cc, cc)
-all-four true false c d e = (cc, cc, cc, cc)
-all-four true true false d e = (cc, cc, cc, cc)
-all-four true true true false e = (cc, cc, cc, cc)
-
 -- bytes that are a record are written as they were read
-read : (b : List ℕ) → length b ≡ 17 → isRecord b ≡ true → recordBytes (recordOf b) ≡ b
+read : (b : List ℕ) → length b ≡ 21 → isRecord b ≡ true → recordBytes (recordOf b) ≡ b
 unfolding recordBytes recordOf isRecord
 read b l e =
-    let h : _ = all-four (areFlags b 0) (areFlags b 4) (areFlags b 8) (areFlags b 12) e in
-    parts (at b 16 ∷ []) (slot-kept b 0 (h .0)) (slot-kept b 4 (h .1)) (slot-kept b 8 (h .2)) (slot-kept b 12 (h .3)) ∙ entries-of 0 b 17 l
+    let h : _ = all-four (areFlags b 0) (areFlags b 5) (areFlags b 10) (areFlags b 15) e in
+    parts (at b 20 ∷ []) (slot-kept b 0 (h .0)) (slot-kept b 5 (h .1)) (slot-kept b 10 (h .2)) (slot-kept b 15 (h .3)) ∙ entries-of 0 b 21 l
 
 -- a flag is a byte
 flag-small : (f : Bool) → flag f < 256
@@ -114,8 +111,9 @@ slot-small : (s : Slot) → s .tries < 256 → (i : ℕ) → getD (slotBytes s) 
 slot-small s h zero = flag-small (s .used)
 slot-small s h (suc zero) = flag-small (s .unbootable)
 slot-small s h (suc (suc zero)) = flag-small (s .successful)
-slot-small s h (suc (suc (suc zero))) = h
-slot-small s h (suc (suc (suc (suc i)))) = omega arith
+slot-small s h (suc (suc (suc zero))) = flag-small (s .corrupted)
+slot-small s h (suc (suc (suc (suc zero)))) = h
+slot-small s h (suc (suc (suc (suc (suc i))))) = omega arith
 
 one-small : (x : ℕ) → x < 256 → (i : ℕ) → getD (x ∷ []) i 0 < 256
 one-small x h zero = h
@@ -133,7 +131,7 @@ small r h =
     (each c (d ++ e) (slot-small (slotAt r 2) (h .tries 2))
     (each d e (slot-small (slotAt r 3) (h .tries 3)) (one-small (r .current) (h .current)))))
 
-long : (r : Record) → length (recordBytes r) ≡ 17
+long : (r : Record) → length (recordBytes r) ≡ 21
 unfolding recordBytes
 long r = refl
 

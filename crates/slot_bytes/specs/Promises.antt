@@ -14,9 +14,9 @@ pub record InBytes (r : Record) : Type 0 where
   pub tries : (i : ℕ) → slotAt r i .tries < 256
   pub current : r .current < 256
 
--- what is written of a record r: 17 bytes that are a record, and are read as r again
+-- what is written of a record r: 21 bytes that are a record, and are read as r again
 pub record Written (r : Record) : Type 0 where
-  pub long : length (recordBytes r) ≡ 17
+  pub long : length (recordBytes r) ≡ 21
   pub bytes : (i : ℕ) → getD (recordBytes r) i 0 < 256
   pub right : isRecord (recordBytes r) ≡ true
   pub again : recordOf (recordBytes r) ≡ r
@@ -24,4 +24,4 @@ pub record Written (r : Record) : Type 0 where
 -- writing and reading are a round trip both ways
 pub record Promises : Type 0 where
   pub written : (r : Record) → InBytes r → Written r
-  pub read : (b : List ℕ) → length b ≡ 17 → isRecord b ≡ true → recordBytes (recordOf b) ≡ b
+  pub read : (b : List ℕ) → length b ≡ 21 → isRecord b ≡ true → recordBytes (recordOf b) ≡ b

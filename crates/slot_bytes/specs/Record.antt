@@ -1,5 +1,5 @@
--- The slot record as 17 bytes: for a, b, c and d in turn used, unbootable, successful (0 or 1 each) and tries; then the
--- current slot, 0 for a. Assumes nothing.
+-- The slot record as 21 bytes: for a, b, c and d in turn used, unbootable, successful, corrupted (0 or 1 each) and tries;
+-- then the current slot, 0 for a. Assumes nothing.
 use mathlib.Core.Bool.{Bool, cond, _&&_}
 use mathlib.Core.List.{List, [], _∷_, _++_}
 use Prim.Native.Nat.{ℕ, _+_}
@@ -13,9 +13,9 @@ use Rattle.slot_rules.specs.Records.{slotAt}
 abbrev pub flag : Bool → ℕ
 flag f = cond f 1 0
 
--- a slot's bytes: used, unbootable, successful, tries
+-- a slot's bytes: used, unbootable, successful, corrupted, tries
 abbrev pub slotBytes : Slot → List ℕ
-slotBytes s = flag (s .used) ∷ flag (s .unbootable) ∷ flag (s .successful) ∷ s .tries ∷ []
+slotBytes s = flag (s .used) ∷ flag (s .unbootable) ∷ flag (s .successful) ∷ flag (s .corrupted) ∷ s .tries ∷ []
 
 -- a record's bytes: slots a to d, then the current slot
 unfoldable pub recordBytes : Record → List ℕ
@@ -26,18 +26,18 @@ recordBytes r =
 abbrev pub at : List ℕ → ℕ → ℕ
 at b i = getD b i 0
 
--- the slot that the four bytes from i on say
+-- the slot that the five bytes from i on say
 abbrev pub slotFrom : List ℕ → ℕ → Slot
-slotFrom b i = record { used = eqb (at b i) 1; unbootable = eqb (at b (i + 1)) 1; successful = eqb (at b (i + 2)) 1; tries = at b (i + 3) }
+slotFrom b i = record { used = eqb (at b i) 1; unbootable = eqb (at b (i + 1)) 1; successful = eqb (at b (i + 2)) 1; corrupted = eqb (at b (i + 3)) 1; tries = at b (i + 4) }
 
 -- the record that bytes say
 unfoldable pub recordOf : List ℕ → Record
-recordOf b = record { slots = slotFrom b 0 ∷ slotFrom b 4 ∷ slotFrom b 8 ∷ slotFrom b 12 ∷ []; current = at b 16 }
+recordOf b = record { slots = slotFrom b 0 ∷ slotFrom b 5 ∷ slotFrom b 10 ∷ slotFrom b 15 ∷ []; current = at b 20 }
 
--- the three bytes from i on are flags, each 0 or 1
+-- the four bytes from i on are flags, each 0 or 1
 abbrev pub areFlags : List ℕ → ℕ → Bool
-areFlags b i = leb (at b i) 1 && leb (at b (i + 1)) 1 && leb (at b (i + 2)) 1
+areFlags b i = leb (at b i) 1 && leb (at b (i + 1)) 1 && leb (at b (i + 2)) 1 && leb (at b (i + 3)) 1
 
 -- bytes are a record: each flag byte is 0 or 1
 unfoldable pub isRecord : List ℕ → Bool
-isRecord b = areFlags b 0 && areFlags b 4 && areFlags b 8 && areFlags b 12
+isRecord b = areFlags b 0 && areFlags b 5 && areFlags b 10 && areFlags b 15

@@ -6,7 +6,7 @@ use slot_rules::Outcome;
 use slot_rules::Record;
 ghost use mathlib.Core.Path.{_≡_};
 ghost use Rattle.slot_rules.specs.Answers.{answerOf, changeOf};
-ghost use Rattle.slot_rules.specs.Operations.{startOf, setActiveOf, modifiedOf, confirmOf};
+ghost use Rattle.slot_rules.specs.Operations.{startOf, setActiveOf, modifiedOf, corruptedOf, confirmOf};
 ghost use Rattle.slot_rules.specs.Applied.{apply};
 
 // Start on a lent record.
@@ -36,6 +36,15 @@ pub fn partition_modified(r: &mut Record, slot: u8) -> Outcome
     c.answer
 }
 
+// Corrupted on a lent record.
+pub fn slot_corrupted(r: &mut Record, slot: u8) -> Outcome
+    ensures { λ a. ⌜ (answerOf a ≡ corruptedOf (now (r .entry)) slot .answer) × (now (r .exit) ≡ corruptedOf (now (r .entry)) slot .after) ⌝ }
+{
+    let c = slot_record::slot_corrupted(*r, slot);
+    *r = c.after;
+    c.answer
+}
+
 // Confirm on a lent record.
 pub fn confirm(r: &mut Record) -> Outcome
     ensures { λ a. ⌜ (answerOf a ≡ confirmOf (now (r .entry)) .answer) × (now (r .exit) ≡ confirmOf (now (r .entry)) .after) ⌝ }
@@ -54,6 +63,7 @@ pub fn operate(r: Record, op: Op) -> Changed
         Op::Start => start(&mut n),
         Op::SetActive(slot) => set_active(&mut n, slot),
         Op::Modified(slot) => partition_modified(&mut n, slot),
+        Op::Corrupted(slot) => slot_corrupted(&mut n, slot),
         Op::Confirm => confirm(&mut n),
     };
     Changed {

@@ -13,10 +13,10 @@ use Rattle.slot_rules.specs.declared.Record.{Record}
 use Rattle.slot_rules.specs.declared.Changed.{Changed}
 use Rattle.slot_rules.specs.declared.Outcome.the-variants.{Starts, Recovery, Done, Refused}
 use Rattle.slot_rules.specs.declared.Op.{Op}
-use Rattle.slot_rules.specs.declared.Op.the-variants.{SetActive, Modified}
+use Rattle.slot_rules.specs.declared.Op.the-variants.{SetActive, Modified, Corrupted}
 use Rattle.slot_rules.specs.Records.{valid}
 use Rattle.slot_rules.specs.Answers.{Change, beside, changeOf, refusedOr}
-use Rattle.slot_rules.specs.Operations.{freshOf, setActiveOf, modifiedOf}
+use Rattle.slot_rules.specs.Operations.{freshOf}
 use Rattle.slot_rules.specs.Applied.{apply}
 use Rattle.slot_rules.proofs.Promises.{past-d}
 use Rattle.slot_bytes.specs.Record.{recordBytes, recordOf, isRecord}
@@ -66,13 +66,21 @@ same-clipped f z m l alike n = go (ltb n 256) refl where
   go false e = let h : 256 ≤ n = ltb-false n 256 e in alike 255 l ∙ sym (alike n (omega (arith, h, l)))
 
 module _ (b : List ℕ) (n : ℕ) {k : ℕ} {x : Reply} (p : k ≡ clipped n) where
-  pub active-clipped : x ≡ onBytes (SetActive k) b → x ≡ onBytes (SetActive n) b
+  -- an operation o on a slot, which refuses all numbers past d alike
+  slot-clipped : (o : ℕ → Op) → ((i : ℕ) → 4 ≤ i → apply (o i) (recordOf b) ≡ apply (o 4) (recordOf b)) → x ≡ onBytes (o k) b → x ≡ onBytes (o n) b
   unfolding onBytes
-  active-clipped e = e ∙ ap (λ (c : Change). replyOf b (refusedOr (first (bytesTests b)) (recordOf b) c)) (ap (setActiveOf (recordOf b)) p ∙ same-clipped (setActiveOf (recordOf b)) (setActiveOf (recordOf b) 4) 4 (omega arith) (past-d .set-active (recordOf b)) n)
+  slot-clipped o alike e =
+      let f : ℕ → Change = λ i. apply (o i) (recordOf b) in
+      e ∙ ap (λ (c : Change). replyOf b (refusedOr (first (bytesTests b)) (recordOf b) c)) (ap f p ∙ same-clipped f (f 4) 4 (omega arith) alike n)
+
+  pub active-clipped : x ≡ onBytes (SetActive k) b → x ≡ onBytes (SetActive n) b
+  active-clipped = slot-clipped SetActive (past-d .set-active (recordOf b))
 
   pub modified-clipped : x ≡ onBytes (Modified k) b → x ≡ onBytes (Modified n) b
-  unfolding onBytes
-  modified-clipped e = e ∙ ap (λ (c : Change). replyOf b (refusedOr (first (bytesTests b)) (recordOf b) c)) (ap (modifiedOf (recordOf b)) p ∙ same-clipped (modifiedOf (recordOf b)) (modifiedOf (recordOf b) 4) 4 (omega arith) (past-d .modified (recordOf b)) n)
+  modified-clipped = slot-clipped Modified (past-d .modified (recordOf b))
+
+  pub corrupted-clipped : x ≡ onBytes (Corrupted k) b → x ≡ onBytes (Corrupted n) b
+  corrupted-clipped = slot-clipped Corrupted (past-d .corrupted (recordOf b))
 
   pub fresh-clipped : {c : Change} → c ≡ freshOf k → x ≡ replyOf b c → x ≡ freshBytes n b
   unfolding freshBytes

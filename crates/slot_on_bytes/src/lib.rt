@@ -15,11 +15,11 @@ ghost use Rattle.slot_on_bytes.specs.OnBytes.{replyOf, onBytes, freshByt
 pub struct Reply {
     pub number: u32,
     pub answer: [u64; 2],
-    pub bytes: [u8; 17],
+    pub bytes: [u8; 21],
 }
 
 // A change of a record, as numbers and as what becomes of the bytes b: a refusal leaves them.
-fn reply_of(b: [u8; 17], c: Changed) -> Reply
+fn reply_of(b: [u8; 21], c: Changed) -> Reply
     ensures { λ r. ⌜ r ≡ replyOf b (changeOf c) ⌝ }
 {
     let a = c.answer;
@@ -50,7 +50,7 @@ fn reply_of(b: [u8; 17], c: Changed) -> Reply
 }
 
 // An operation on bytes; bytes that are no record are refused with 31.
-pub fn operate(bytes: [u8; 17], op: Op) -> Reply
+pub fn operate(bytes: [u8; 21], op: Op) -> Reply
     ensures { λ r. ⌜ r ≡ onBytes op bytes ⌝ }
 {
     let r = record_of(bytes);
@@ -70,7 +70,7 @@ fn clip(n: u32) -> u8
 }
 
 // A fresh record in the place of bytes, for any number of slots.
-pub fn fresh(bytes: [u8; 17], slots: u32) -> Reply
+pub fn fresh(bytes: [u8; 21], slots: u32) -> Reply
     ensures { λ r. ⌜ r ≡ freshBytes slots bytes ⌝ }
 {
     let c = slot_record::fresh(clip(slots));
@@ -78,21 +78,28 @@ pub fn fresh(bytes: [u8; 17], slots: u32) -> Reply
 }
 
 // Set active on bytes, for any number of a slot.
-pub fn set_active(bytes: [u8; 17], slot: u32) -> Reply
+pub fn set_active(bytes: [u8; 21], slot: u32) -> Reply
     ensures { λ r. ⌜ r ≡ onBytes (Op.SetActive slot) bytes ⌝ }
 {
     operate(bytes, Op::SetActive(clip(slot)))
 }
 
 // Partition modified on bytes, for any number of a slot.
-pub fn partition_modified(bytes: [u8; 17], slot: u32) -> Reply
+pub fn partition_modified(bytes: [u8; 21], slot: u32) -> Reply
     ensures { λ r. ⌜ r ≡ onBytes (Op.Modified slot) bytes ⌝ }
 {
     operate(bytes, Op::Modified(clip(slot)))
 }
 
+// Corrupted on bytes, for any number of a slot.
+pub fn slot_corrupted(bytes: [u8; 21], slot: u32) -> Reply
+    ensures { λ r. ⌜ r ≡ onBytes (Op.Corrupted slot) bytes ⌝ }
+{
+    operate(bytes, Op::Corrupted(clip(slot)))
+}
+
 // 0 where bytes are a valid record, else 31.
-pub fn bytes_refusal(bytes: [u8; 17]) -> u32
+pub fn bytes_refusal(bytes: [u8; 21]) -> u32
     ensures { λ r. ⌜ r ≡ bytesRefusal bytes ⌝ }
 {
     let r = record_of(bytes);

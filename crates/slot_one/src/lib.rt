@@ -1,7 +1,7 @@
 // One slot: what makes it valid, what it may do, and what each operation makes of it.
 use slot_rules::Slot;
 ghost use mathlib.Core.Path.{_≡_};
-ghost use Rattle.slot_rules.specs.OneSlot.{slotValid, mayStart, mayTakeOver, mayConfirm, spent, marked, activated, modified, confirmed, newSlot};
+ghost use Rattle.slot_rules.specs.OneSlot.{slotValid, sound, mayStart, mayTakeOver, mayConfirm, spent, marked, activated, modified, damaged, confirmed, newSlot};
 
 // Whether the slot may stand in a valid record: one that is not used always may.
 pub fn is_slot_valid(s: Slot) -> bool
@@ -10,25 +10,32 @@ pub fn is_slot_valid(s: Slot) -> bool
     !s.used | ((s.tries <= 7) & !(s.unbootable & s.successful))
 }
 
+// Whether the slot is neither unbootable nor corrupted.
+fn is_sound(s: Slot) -> bool
+    ensures { λ b. ⌜ b ≡ sound s ⌝ }
+{
+    !s.unbootable & !s.corrupted
+}
+
 // Whether the slot starts where it is current.
 pub fn can_start(s: Slot) -> bool
     ensures { λ b. ⌜ b ≡ mayStart s ⌝ }
 {
-    !s.unbootable & (s.successful | (0 < s.tries))
+    is_sound(s) & (s.successful | (0 < s.tries))
 }
 
 // Whether the slot starts in the place of a current one that does not.
 pub fn can_take_over(s: Slot) -> bool
     ensures { λ b. ⌜ b ≡ mayTakeOver s ⌝ }
 {
-    s.used & s.successful & !s.unbootable
+    s.used & s.successful & is_sound(s)
 }
 
-// Whether the slot can be confirmed.
-pub fn can_confirm(s: Slot) -> bool
-    ensures { λ b. ⌜ b ≡ mayConfirm s ⌝ }
+// Whether the current slot can be confirmed.
+pub fn can_confirm(current: Slot) -> bool
+    ensures { λ b. ⌜ b ≡ mayConfirm current ⌝ }
 {
-    !s.unbootable
+    is_sound(current)
 }
 
 // The slot after it starts: one try less, unless it is successful.
@@ -45,12 +52,13 @@ pub fn spend(s: Slot) -> Slot
     t
 }
 
-// The slot, marked unbootable.
+// The slot, marked unbootable and so no longer successful.
 pub fn mark(s: Slot) -> Slot
     ensures { λ t. ⌜ t ≡ marked s ⌝ }
 {
     let mut t = s;
     t.unbootable = true;
+    t.successful = false;
     t
 }
 
@@ -58,12 +66,12 @@ pub fn mark(s: Slot) -> Slot
 pub fn activate(s: Slot) -> Slot
     ensures { λ t. ⌜ t ≡ activated s ⌝ }
 {
-    Slot {
-        used: s.used,
-        unbootable: false,
-        successful: false,
-        tries: 3,
-    }
+    let mut active = s;
+    active.unbootable = false;
+    active.successful = false;
+    active.corrupted = false;
+    active.tries = 3;
+    active
 }
 
 // The slot after its partition was modified.
@@ -74,8 +82,18 @@ pub fn modify(s: Slot) -> Slot
         used: s.used,
         unbootable: s.unbootable,
         successful: false,
+        corrupted: false,
         tries: 3,
     }
+}
+
+// The slot after its system was found corrupted.
+pub fn damage(s: Slot) -> Slot
+    ensures { λ t. ⌜ t ≡ damaged s ⌝ }
+{
+    let mut t = s;
+    t.corrupted = true;
+    t
 }
 
 // The slot after it was confirmed.
@@ -87,14 +105,16 @@ pub fn make_successful(s: Slot) -> Slot
     t
 }
 
-// A slot of a fresh record.
+// A slot of a fresh record: its flags are clear.
 pub fn new_slot(used: bool, tries: u8) -> Slot
     ensures { λ t. ⌜ t ≡ newSlot used tries ⌝ }
 {
+    let clear = false;
     Slot {
         used: used,
-        unbootable: false,
-        successful: false,
+        unbootable: clear,
+        successful: clear,
+        corrupted: clear,
         tries: tries,
     }
 }

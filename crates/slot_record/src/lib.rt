@@ -6,6 +6,7 @@ use slot_one::activate;
 use slot_one::can_confirm;
 use slot_one::can_start;
 use slot_one::can_take_over;
+use slot_one::damage;
 use slot_one::make_successful;
 use slot_one::mark;
 use slot_one::modify;
@@ -22,7 +23,7 @@ use slot_rules::Slot;
 ghost use mathlib.Core.Path.{_≡_};
 ghost use Rattle.rules.specs.Answer.{refused};
 ghost use Rattle.slot_rules.specs.Answers.{changeOf, beside};
-ghost use Rattle.slot_rules.specs.Operations.{freshOf, firstOther, takeOver, startOf, onSlot, setActiveOf, modifiedOf, confirmOf};
+ghost use Rattle.slot_rules.specs.Operations.{freshOf, firstOther, takeOver, startOf, onSlot, setActiveOf, modifiedOf, corruptedOf, confirmOf};
 
 // A refusal by its number, beside the record that it hands back.
 pub fn refuse(n: u32, r: Record) -> Changed
@@ -104,43 +105,46 @@ pub fn start(r: Record) -> Changed
     refuse(31, r)
 }
 
-// An operation on a slot: it becomes s, and m is current.
+// The shape of every operation on a slot: 31, 32, or the slot becomes s, and m is current.
 fn on_slot(r: Record, slot: u8, s: Slot, m: u8) -> Changed
     ensures { λ c. ⌜ changeOf c ≡ onSlot r slot s m ⌝ }
 {
-    if is_valid(r) {
-        if is_in_use(r, slot) {
-            let mut n = replace(r, slot, s);
-            n.current = m;
-            return Changed {
-                answer: Outcome::Done,
-                after: n,
-            };
-        }
-        return refuse(32, r);
+    let valid = is_valid(r);
+    let used = is_in_use(r, slot);
+    if valid & used {
+        let mut n = replace(r, slot, s);
+        n.current = m;
+        return Changed {
+            answer: Outcome::Done,
+            after: n,
+        };
     }
-    refuse(31, r)
+    let number = if valid { 32 } else { 31 };
+    refuse(number, r)
 }
 
-// Makes a slot current, with both flags clear and three tries.
+// Makes a slot current, with all flags clear and three tries.
 pub fn set_active(r: Record, slot: u8) -> Changed
     ensures { λ c. ⌜ changeOf c ≡ setActiveOf r slot ⌝ }
 {
-    let s = slot_at(r, slot);
-    let t = activate(s);
-    on_slot(r, slot, t, slot)
+    on_slot(r, slot, activate(slot_at(r, slot)), slot)
 }
 
-// Notes that a partition of a slot was modified: no longer successful, three tries, unbootable as before.
+// Notes that a partition of a slot was modified: successful and corrupted clear, three tries, unbootable as before.
 pub fn partition_modified(r: Record, slot: u8) -> Changed
     ensures { λ c. ⌜ changeOf c ≡ modifiedOf r slot ⌝ }
 {
-    let s = slot_at(r, slot);
-    let t = modify(s);
-    on_slot(r, slot, t, r.current)
+    on_slot(r, slot, modify(slot_at(r, slot)), r.current)
 }
 
-// Makes the current slot successful, unless it is unbootable. The system calls this, never the loader.
+// Notes that a slot's system was found corrupted; nothing else changes.
+pub fn slot_corrupted(r: Record, slot: u8) -> Changed
+    ensures { λ c. ⌜ changeOf c ≡ corruptedOf r slot ⌝ }
+{
+    on_slot(r, slot, damage(slot_at(r, slot)), r.current)
+}
+
+// Makes the current slot successful, unless it is unbootable or corrupted. The system calls this, never the loader.
 pub fn confirm(r: Record) -> Changed
     ensures { λ c. ⌜ changeOf c ≡ confirmOf r ⌝ }
 {

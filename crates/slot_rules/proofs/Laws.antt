@@ -11,7 +11,7 @@ use lib.Seq.{set-out}
 use borrow.Author.Tests.{ltb-true, le-ltb, lt-leb}
 use Rattle.rules.specs.Answer.{refused, numberOf}
 use Rattle.slot_rules.specs.declared.Slot.{Slot}
-use Rattle.slot_rules.proofs.Tests.{and-left, and-false}
+use Rattle.slot_rules.proofs.Tests.{and-left, and-right, and-false}
 use Rattle.slot_rules.specs.declared.Record.{Record}
 use Rattle.slot_rules.specs.OneSlot.{slotValid, mayStart, mayTakeOver, mayConfirm, spent, marked, confirmed, newSlot}
 use Rattle.slot_rules.specs.Records.{slotAt, currentSlot, inUse, slotsValid, valid, replaced, withCurrent, newRecord}
@@ -96,9 +96,9 @@ module _ (r : Record) (v : valid r ≡ true) where
     unfolding onSlot
     on-slot-done e = simp (v, e)
 
-  pub confirm-unbootable : mayConfirm (currentSlot r) ≡ false → confirmOf r ≡ beside (refused 33 0) r
+  pub confirm-unsound : mayConfirm (currentSlot r) ≡ false → confirmOf r ≡ beside (refused 33 0) r
   unfolding confirmOf
-  confirm-unbootable e = simp (v, e)
+  confirm-unsound e = simp (v, e)
 
   pub confirm-done : mayConfirm (currentSlot r) ≡ true → confirmOf r ≡ change done (replaced r (r .current) (confirmed (currentSlot r)))
   unfolding confirmOf
@@ -126,7 +126,18 @@ module _ (r : Record) (v : valid r ≡ true) {s : Slot} (read : s ≡ currentSlo
   confirms m q e = ap (change done) (made confirmed q e) ∙ sym (confirm-done r v (ap mayConfirm (sym read) ∙ m))
 
   pub confirm-refused : mayConfirm s ≡ false → beside (refused 33 0) r ≡ confirmOf r
-  confirm-refused m = sym (confirm-unbootable r v (ap mayConfirm (sym read) ∙ m))
+  confirm-refused m = sym (confirm-unsound r v (ap mayConfirm (sym read) ∙ m))
+
+-- an operation on a slot by its tests: a that the record is valid, b that the slot is in use
+module _ (r : Record) (k : ℕ) (s : Slot) (m : ℕ) {a b : Bool} (ea : a ≡ valid r) (eb : b ≡ inUse r k) where
+  pub on-slot-taken : (a && b) ≡ true → onSlot r k s m ≡ change done (withCurrent (replaced r k s) m)
+  on-slot-taken e = on-slot-done r (sym ea ∙ and-left a b e) k s m (sym eb ∙ and-right a b e)
+
+  pub on-slot-refused : (a && b) ≡ false → onSlot r k s m ≡ beside (refused (cond a 32 31) 0) r
+  on-slot-refused e = go a refl where
+    go : (t : Bool) → a ≡ t → onSlot r k s m ≡ beside (refused (cond t 32 31) 0) r
+    go true p = on-slot-unused r (sym ea ∙ p) k s m (sym eb ∙ ap (λ (t : Bool). t && b) (sym p) ∙ e)
+    go false p = on-slot-invalid r (sym ea ∙ p) k s m
 
 -- the end of an operation on a slot, and what does not matter where its slot is not in use
 pub slot-at-end : (r n : Record) (k m : ℕ) (s : Slot) {c : Change} → n ≡ replaced r k s → c ≡ change done (withCurrent (replaced r k s) m) → change done (withCurrent n m) ≡ c

@@ -1,4 +1,4 @@
--- One slot: a slot that an operation makes of a valid one is valid, and what a slot that may take over is.
+-- One slot: a slot that an operation makes of a valid one is valid, and what a slot is that may start, that may take over, and that may not start.
 -- Assumes nothing.
 use mathlib.Core.Path.{_≡_, refl, sym, ap, _∙_}
 use mathlib.Core.Bool.{Bool, true, false, not, cond, _&&_, _||_}
@@ -7,8 +7,8 @@ use native.Mathlib.Omega.{arith}
 use lib.Dec.{ltb, leb}
 use borrow.Author.Tests.{not-true, leb-true, le-leb}
 use Rattle.slot_rules.specs.declared.Slot.{Slot}
-use Rattle.slot_rules.specs.OneSlot.{slotValid, mayStart, mayTakeOver, mayConfirm, withTries, spent, marked, activated, modified, confirmed}
-use Rattle.slot_rules.proofs.Tests.{and-left, and-right}
+use Rattle.slot_rules.specs.OneSlot.{slotValid, sound, mayStart, mayTakeOver, mayConfirm, withTries, spent, marked, activated, modified, damaged, confirmed}
+use Rattle.slot_rules.proofs.Tests.{and-left, and-right, and-false}
 
 -- what two tests that differ prove
 pub clash : {A : Type 0} {b : Bool} → b ≡ true → b ≡ false → A
@@ -19,17 +19,16 @@ pub by-cond : {A : Type 0} (b : Bool) {x y : A} (Q : A → Type 0) → (b ≡ tr
 by-cond true Q f g = f refl
 by-cond false Q f g = g refl
 
--- the tests of a slot, as tests of its flags: d used, u unbootable, s successful, a tries at most 7, b tries above 0
-less-valid : (d u s a c : Bool) → (a ≡ true → c ≡ true) → (not d || (a && not (u && s))) ≡ true → (not d || (c && not (u && s))) ≡ true
-less-valid false u s a c f e = refl
-less-valid true u s true c f e = ap (λ (x : Bool). x && not (u && s)) (f refl) ∙ e
-less-valid true u s false c f e = clash refl (sym e)
+-- the tests of a slot, as tests of its flags: d used, u unbootable, s successful, c corrupted, a tries at most 7, b tries above 0
+less-valid : (d u s a l : Bool) → (a ≡ true → l ≡ true) → (not d || (a && not (u && s))) ≡ true → (not d || (l && not (u && s))) ≡ true
+less-valid false u s a l f e = refl
+less-valid true u s true l f e = ap (λ (x : Bool). x && not (u && s)) (f refl) ∙ e
+less-valid true u s false l f e = clash refl (sym e)
 
-mark-valid : (d u s a b : Bool) → (not d || (a && not (u && s))) ≡ true → (not u && (s || b)) ≡ false → (not d || (a && not s)) ≡ true
-mark-valid false u s a b e f = refl
-mark-valid true true s a b e f = e
-mark-valid true false true a b e f = clash refl f
-mark-valid true false false a b e f = e
+mark-valid : (d u s a : Bool) → (not d || (a && not (u && s))) ≡ true → (not d || (a && not (true && false))) ≡ true
+mark-valid false u s a e = refl
+mark-valid true u s true e = refl
+mark-valid true u s false e = clash refl (sym e)
 
 modify-valid : (d u : Bool) → (not d || (true && not (u && false))) ≡ true
 modify-valid false u = refl
@@ -40,6 +39,17 @@ confirm-valid : (d u s a : Bool) → (not d || (a && not (u && s))) ≡ true →
 confirm-valid false u s a e f = refl
 confirm-valid true true s a e f = clash f refl
 confirm-valid true false s a e f = e
+
+no-start : (u c x : Bool) → c ≡ true → ((not u && not c) && x) ≡ false
+no-start true c x e = refl
+no-start false c x e = ap (λ (y : Bool). not y && x) e
+
+why-no-start : (d u s c a b : Bool) → d ≡ true → (not d || (a && not (u && s))) ≡ true → ((not u && not c) && (s || b)) ≡ false → s ≡ true → c ≡ true
+why-no-start d u s true a b h v m e = refl
+why-no-start false u s false a b h v m e = h
+why-no-start true u false false a b h v m e = e
+why-no-start true true true false a b h v m e = clash v (and-false a)
+why-no-start true false true false a b h v m e = clash refl m
 
 one-less : (n : ℕ) → leb n 7 ≡ true → leb (n - 1) 7 ≡ true
 one-less n e = let h : n ≤ 7 = leb-true n 7 e in let l : n - 1 ≤ 7 = omega arith in le-leb (n - 1) 7 l
@@ -55,16 +65,38 @@ module _ (s : Slot) where
     pub spent-valid : slotValid (spent s) ≡ true
     spent-valid = by-cond (s .successful) (λ (t : Slot). slotValid t ≡ true) (λ _. v) (λ _. less-valid (s .used) (s .unbootable) (s .successful) (leb (s .tries) 7) (leb (s .tries - 1) 7) (one-less (s .tries)) v)
 
-    pub marked-valid : mayStart s ≡ false → slotValid (marked s) ≡ true
-    marked-valid = mark-valid (s .used) (s .unbootable) (s .successful) (leb (s .tries) 7) (ltb 0 (s .tries)) v
+    pub marked-valid : slotValid (marked s) ≡ true
+    marked-valid = mark-valid (s .used) (s .unbootable) (s .successful) (leb (s .tries) 7) v
+
+    pub damaged-valid : slotValid (damaged s) ≡ true
+    damaged-valid = v
 
     pub confirmed-valid : mayConfirm s ≡ true → slotValid (confirmed s) ≡ true
-    confirmed-valid = confirm-valid (s .used) (s .unbootable) (s .successful) (leb (s .tries) 7) v
+    confirmed-valid e = confirm-valid (s .used) (s .unbootable) (s .successful) (leb (s .tries) 7) v (and-left (not (s .unbootable)) (not (s .corrupted)) e)
 
--- a slot that may take over is in use, successful and not unbootable
+    -- a slot in use that is successful and yet may not start is corrupted
+    pub stuck-corrupted : s .used ≡ true → mayStart s ≡ false → s .successful ≡ true → s .corrupted ≡ true
+    stuck-corrupted u = why-no-start (s .used) (s .unbootable) (s .successful) (s .corrupted) (leb (s .tries) 7) (ltb 0 (s .tries)) u v
+
+-- a corrupted slot may not start
+pub corrupted-stuck : (s : Slot) → s .corrupted ≡ true → mayStart s ≡ false
+corrupted-stuck s = no-start (s .unbootable) (s .corrupted) (s .successful || ltb 0 (s .tries))
+
+-- a slot that may start is neither unbootable nor corrupted
+module _ (s : Slot) (e : mayStart s ≡ true) where
+  starts-sound : sound s ≡ true
+  starts-sound = and-left (sound s) (s .successful || ltb 0 (s .tries)) e
+
+  pub starts-bootable : s .unbootable ≡ false
+  starts-bootable = not-true (s .unbootable) (and-left (not (s .unbootable)) (not (s .corrupted)) starts-sound)
+
+  pub starts-intact : s .corrupted ≡ false
+  starts-intact = not-true (s .corrupted) (and-right (not (s .unbootable)) (not (s .corrupted)) starts-sound)
+
+-- a slot that may take over is in use and successful, and may start
 module _ (s : Slot) (e : mayTakeOver s ≡ true) where
   flags : (s .used && s .successful) ≡ true
-  flags = and-left (s .used && s .successful) (not (s .unbootable)) e
+  flags = and-left (s .used && s .successful) (sound s) e
 
   pub over-used : s .used ≡ true
   over-used = and-left (s .used) (s .successful) flags
@@ -72,11 +104,12 @@ module _ (s : Slot) (e : mayTakeOver s ≡ true) where
   pub over-successful : s .successful ≡ true
   over-successful = and-right (s .used) (s .successful) flags
 
-  pub over-bootable : s .unbootable ≡ false
-  over-bootable = not-true (s .unbootable) (and-right (s .used && s .successful) (not (s .unbootable)) e)
-
   pub over-starts : mayStart s ≡ true
-  over-starts = simp (over-bootable, over-successful)
+  over-starts = simp (and-right (s .used && s .successful) (sound s) e, over-successful)
+
+-- what is no matter of its tries, a slot that started has as before
+pub spent-same : {A : Type 0} (s : Slot) (f : Slot → A) → f (withTries s (s .tries - 1)) ≡ f s → f (spent s) ≡ f s
+spent-same s f e = by-cond (s .successful) (λ (t : Slot). f t ≡ f s) (λ _. refl) (λ _. e)
 
 -- a slot with no try left loses none
 pub no-try : (s : Slot) → s .successful ≡ false → s .tries ≤ 0 → s ≡ spent s

@@ -24,11 +24,15 @@ inside (x ∷ xs) (suc i) e = suc-le-suc (inside xs i e)
 pub in-use-used : (r : Record) (i : ℕ) → inUse r i ≡ true → slotAt r i .used ≡ true
 in-use-used r i e = and-right (ltb i 4) (slotAt r i .used) e
 
+-- the slot put in stands in its place
+pub replaced-here : (r : Record) (i : ℕ) (s : Slot) → inUse r i ≡ true → slotAt (replaced r i s) i ≡ s
+replaced-here r i s h = getD-set-same (r .slots) i s (newSlot false 0) (inside (r .slots) i (in-use-used r i h))
+
 -- what holds of the slot put in and of each other slot holds at every place
 pub by-place : (r : Record) (i : ℕ) (s : Slot) → inUse r i ≡ true → (Q : ℕ → Slot → Type 0) → Q i s → ((j : ℕ) → (j ≡ i → ⊥) → Q j (slotAt r j)) → (j : ℕ) → Q j (slotAt (replaced r i s) j)
 by-place r i s h Q here there j = go (eqb j i) refl where
   go : (b : Bool) → eqb j i ≡ b → Q j (slotAt (replaced r i s) j)
-  go true e = subst (λ (k : ℕ). Q k (slotAt (replaced r i s) k)) (sym (eqb-true j i e)) (subst (Q i) (sym (getD-set-same (r .slots) i s (newSlot false 0) (inside (r .slots) i (in-use-used r i h)))) here)
+  go true e = subst (λ (k : ℕ). Q k (slotAt (replaced r i s) k)) (sym (eqb-true j i e)) (subst (Q i) (sym (replaced-here r i s h)) here)
   go false e = subst (Q j) (sym (getD-set-other (r .slots) i j s (newSlot false 0) (eqb-false j i e))) (there j (eqb-false j i e))
 
 -- the four slots are valid exactly where each is

@@ -1,37 +1,46 @@
 -- What holds of every operation on every record.
 -- Assumes nothing.
 use mathlib.Core.Path.{_≡_, refl, sym, ap, subst, _∙_}
-use mathlib.Core.Bool.{true, false, not, _&&_, _||_}
+use mathlib.Core.Bool.{Bool, true, false, cond, _&&_, _||_}
 use Prim.Native.Nat.{ℕ, zero, suc, _<_, _≤_}
 use native.Mathlib.Omega.{arith}
-use lib.Dec.{ltb}
-use borrow.Author.Tests.{not-true}
+use lib.Dec.{ltb, leb}
+use borrow.Author.Tests.{ne-eqb}
 use Rattle.rules.specs.First.{first}
-use Rattle.rules.specs.Answer.{accepted, refused, numberOf}
+use Rattle.rules.specs.Answer.{Answer, accepted, refused, numberOf}
 use Rattle.slot_rules.specs.declared.Slot.{Slot}
 use Rattle.slot_rules.specs.declared.Record.{Record}
 use Rattle.slot_rules.specs.declared.Op.{Op}
-use Rattle.slot_rules.specs.declared.Op.the-variants.{Start, SetActive, Modified, Confirm}
-use Rattle.slot_rules.specs.OneSlot.{slotValid, mayStart, activated, modified}
-use Rattle.slot_rules.specs.Records.{slotAt, inUse, slotsValid, valid, replaced, withCurrent, newRecord}
-use Rattle.slot_rules.specs.Answers.{starts, done, Change}
-use Rattle.slot_rules.specs.Operations.{freshTests, freshOf, startOf}
+use Rattle.slot_rules.specs.declared.Op.the-variants.{Start, SetActive, Modified, Corrupted, Confirm}
+use Rattle.slot_rules.specs.OneSlot.{slotValid, mayStart, marked, activated, modified, damaged}
+use Rattle.slot_rules.specs.Records.{slotAt, currentSlot, inUse, slotsValid, valid, replaced, withCurrent, newRecord}
+use Rattle.slot_rules.specs.Answers.{Deed, starts, done, Change}
+use Rattle.slot_rules.specs.Operations.{freshTests, freshOf, firstOther, startOf}
 use Rattle.slot_rules.specs.Applied.{apply}
-use Rattle.slot_rules.specs.Promises.{triesAfter, Lawful, Started, RefusalNumbers, PastD, Promises}
+use Rattle.slot_rules.specs.Promises.{about, isDone, renews, confirms, givesWay, triesAfter, Lawful, Started, RefusalNumbers, PastD, Promises}
 use Rattle.rules.proofs.Answer.{has-number}
-use Rattle.slot_rules.proofs.Tests.{and-left, and-right}
-use Rattle.slot_rules.proofs.OneSlot.{clash}
+use Rattle.slot_rules.proofs.Tests.{and-right, and-false}
+use Rattle.slot_rules.proofs.OneSlot.{clash, by-cond, corrupted-stuck, starts-bootable, starts-intact}
 use Rattle.slot_rules.proofs.Answers.{starts-none, not-refused, refusedOr-numbered}
-use Rattle.slot_rules.proofs.Laws.{past-alike, fresh-past}
-use Rattle.slot_rules.proofs.Places.{by-place, each-valid, all-valid, in-use-used}
-use Rattle.slot_rules.proofs.Steps.{Step, refusal, entry, step}
+use Rattle.slot_rules.proofs.Laws.{valid-in-use, start-other, past-alike, fresh-made, fresh-none, fresh-past}
+use Rattle.slot_rules.proofs.Places.{replaced-here, by-place, each-valid, all-valid, in-use-used}
+use Rattle.slot_rules.proofs.Steps.{Made, Step, refusal, entry, step}
 
--- a refusal changes no tries
-refused-tries : (o : Op) (n p i : ℕ) (s : Slot) → s .tries ≡ triesAfter o (refused n p) i s
-refused-tries Start n p i s = refl
-refused-tries (SetActive k) n p i s = refl
-refused-tries (Modified k) n p i s = refl
-refused-tries Confirm n p i s = refl
+-- a refusal renews no slot
+not-renewed : (o : Op) (n p i : ℕ) → renews o (refused n p) i ≡ false
+not-renewed Start n p i = refl
+not-renewed (SetActive k) n p i = refl
+not-renewed (Modified k) n p i = refl
+not-renewed (Corrupted k) n p i = refl
+not-renewed Confirm n p i = refl
+
+-- no operation renews a slot that it is not about
+others-not-renewed : (o : Op) (r : Record) (a : Answer Deed) (j : ℕ) → (j ≡ about o r → ⊥) → renews o a j ≡ false
+others-not-renewed Start r a j h = refl
+others-not-renewed (SetActive k) r a j h = ap (_&&_ (isDone a)) (ne-eqb j k h) ∙ and-false (isDone a)
+others-not-renewed (Modified k) r a j h = ap (_&&_ (isDone a)) (ne-eqb j k h) ∙ and-false (isDone a)
+others-not-renewed (Corrupted k) r a j h = refl
+others-not-renewed Confirm r a j h = refl
 
 module _ (o : Op) (r : Record) where
   keeps : (c : Change) → Step o r c → (n p : ℕ) → c .answer ≡ refused n p → c .after ≡ r
@@ -44,12 +53,17 @@ module _ (o : Op) (r : Record) where
 
   uses : (c : Change) → Step o r c → (i : ℕ) → slotAt (c .after) i .used ≡ slotAt r i .used
   uses _ (refusal _ _) j = refl
-  uses _ (entry d i s k known) j = by-place r i s (known .place-used) (λ (j : ℕ) (t : Slot). t .used ≡ slotAt r j .used) (known .used-kept) (λ j _. refl) j
+  uses _ (entry d i s k known) j = by-place r i s (known .place-used) (λ (j : ℕ) (t : Slot). t .used ≡ slotAt r j .used) (known .made .used-kept) (λ j _. refl) j
 
   unused : (c : Change) → Step o r c → (i : ℕ) → slotAt r i .used ≡ false → slotAt (c .after) i ≡ slotAt r i
   unused _ (refusal _ _) j e = refl
   unused _ (entry d i s k known) j e =
       by-place r i s (known .place-used) (λ (j : ℕ) (t : Slot). slotAt r j .used ≡ false → t ≡ slotAt r j) (λ e. clash (in-use-used r i (known .place-used)) e) (λ j _ _. refl) j e
+
+  others : (c : Change) → Step o r c → (i : ℕ) → (i ≡ about o r → ⊥) → slotAt (c .after) i ≡ slotAt r i
+  others _ (refusal _ _) j h = refl
+  others _ (entry d i s k known) j h =
+      by-place r i s (known .place-used) (λ (j : ℕ) (t : Slot). (j ≡ about o r → ⊥) → t ≡ slotAt r j) (λ h. absurd (h (known .at-place))) (λ j _ _. refl) j h
 
   stays : (c : Change) → Step o r c → valid r ≡ true → valid (c .after) ≡ true
   unfolding valid
@@ -59,25 +73,34 @@ module _ (o : Op) (r : Record) where
     olds = each-valid r (and-right (inUse r (r .current)) (slotsValid r) v)
 
     slots : slotsValid (withCurrent (replaced r i s) k) ≡ true
-    slots = all-valid (withCurrent (replaced r i s) k) (by-place r i s (known .place-used) (λ (j : ℕ) (t : Slot). j < 4 → slotValid t ≡ true) (λ _. known .still-valid) (λ j _. olds j))
+    slots = all-valid (withCurrent (replaced r i s) k) (by-place r i s (known .place-used) (λ (j : ℕ) (t : Slot). j < 4 → slotValid t ≡ true) (λ _. known .made .still-valid) (λ j _. olds j))
 
     current : inUse (withCurrent (replaced r i s) k) k ≡ true
     current = ap (_&&_ (ltb k 4)) (uses _ (entry d i s k known) k) ∙ known .current-used
 
-  bootable : (c : Change) → Step o r c → (i : ℕ) → slotAt r i .unbootable ≡ true → slotAt (c .after) i .unbootable ≡ false → o ≡ SetActive i
-  bootable _ (refusal _ _) j p q = clash p q
-  bootable _ (entry d i s k known) j p q =
-      by-place r i s (known .place-used) (λ (j : ℕ) (t : Slot). slotAt r j .unbootable ≡ true → t .unbootable ≡ false → o ≡ SetActive j) (known .unbootable-kept) (λ j _ p q. clash p q) j p q
+  -- a flag f that an operation sets, or clears, only where W says so of the answer and the place
+  module _ (f : Slot → Bool) (W : Answer Deed → ℕ → Type 0) where
+    sets : ((d : Deed) (i : ℕ) (s : Slot) → Made o r d i s → f (slotAt r i) ≡ false → f s ≡ true → W (accepted d) i) → (c : Change) → Step o r c → (i : ℕ) → f (slotAt r i) ≡ false → f (slotAt (c .after) i) ≡ true → W (c .answer) i
+    sets here _ (refusal _ _) j p q = clash q p
+    sets here _ (entry d i s k known) j p q =
+        by-place r i s (known .place-used) (λ (j : ℕ) (t : Slot). f (slotAt r j) ≡ false → f t ≡ true → W (accepted d) j) (here d i s (known .made)) (λ j _ p q. clash q p) j p q
 
-  successes : (c : Change) → Step o r c → (i : ℕ) → slotAt r i .successful ≡ false → slotAt (c .after) i .successful ≡ true → (o ≡ Confirm) × (i ≡ r .current)
-  successes _ (refusal _ _) j p q = clash q p
-  successes _ (entry d i s k known) j p q =
-      by-place r i s (known .place-used) (λ (j : ℕ) (t : Slot). slotAt r j .successful ≡ false → t .successful ≡ true → (o ≡ Confirm) × (j ≡ r .current)) (known .successful-kept) (λ j _ p q. clash q p) j p q
+    clears : ((d : Deed) (i : ℕ) (s : Slot) → Made o r d i s → f (slotAt r i) ≡ true → f s ≡ false → W (accepted d) i) → (c : Change) → Step o r c → (i : ℕ) → f (slotAt r i) ≡ true → f (slotAt (c .after) i) ≡ false → W (c .answer) i
+    clears here _ (refusal _ _) j p q = clash p q
+    clears here _ (entry d i s k known) j p q =
+        by-place r i s (known .place-used) (λ (j : ℕ) (t : Slot). f (slotAt r j) ≡ true → f t ≡ false → W (accepted d) j) (here d i s (known .made)) (λ j _ p q. clash p q) j p q
+
+  renewals : (c : Change) → Step o r c → (i : ℕ) → renews o (c .answer) i ≡ true → (slotAt (c .after) i .successful ≡ false) × (slotAt (c .after) i .corrupted ≡ false)
+  renewals _ (refusal n _) j e = clash e (not-renewed o n 0 j)
+  renewals _ (entry d i s k known) j e =
+      by-place r i s (known .place-used) (λ (j : ℕ) (t : Slot). renews o (accepted d) j ≡ true → (t .successful ≡ false) × (t .corrupted ≡ false)) (known .made .renewed)
+      (λ j h e. clash e (others-not-renewed o r (accepted d) j (λ q. h (q ∙ sym (known .at-place))))) j e
 
   tries : (c : Change) → Step o r c → (i : ℕ) → slotAt (c .after) i .tries ≡ triesAfter o (c .answer) i (slotAt r i)
-  tries _ (refusal n _) j = refused-tries o n 0 j (slotAt r j)
+  tries _ (refusal n _) j = sym (ap (λ (b : Bool). cond b 3 (slotAt r j .tries)) (not-renewed o n 0 j))
   tries _ (entry d i s k known) j =
-      by-place r i s (known .place-used) (λ (j : ℕ) (t : Slot). t .tries ≡ triesAfter o (accepted d) j (slotAt r j)) (known .tries-here) (known .tries-there) j
+      by-place r i s (known .place-used) (λ (j : ℕ) (t : Slot). t .tries ≡ triesAfter o (accepted d) j (slotAt r j)) (known .made .tries-now)
+      (λ j h. simp (others-not-renewed o r (accepted d) j (λ q. h (q ∙ sym (known .at-place))), known .no-try j h)) j
 
 -- every operation is lawful
 pub lawful : (o : Op) (r : Record) → Lawful o r
@@ -85,9 +108,14 @@ lawful o r = record {
   refusal-keeps = keeps o r (apply o r) (step o r);
   stays-valid = stays o r (apply o r) (step o r);
   unused-kept = unused o r (apply o r) (step o r);
+  others-kept = others o r (apply o r) (step o r);
   use-kept = uses o r (apply o r) (step o r);
-  unbootable-stays = bootable o r (apply o r) (step o r);
-  successful-waits = successes o r (apply o r) (step o r);
+  unbootable-stays = clears o r (λ s. s .unbootable) (λ a i. o ≡ SetActive i) (λ d i s made. made .unbootable-kept) (apply o r) (step o r);
+  successful-waits = sets o r (λ s. s .successful) (λ a i. confirms o a r i ≡ true) (λ d i s made. made .successful-set) (apply o r) (step o r);
+  successful-stays = clears o r (λ s. s .successful) (λ a i. (renews o a i || givesWay o r i) ≡ true) (λ d i s made. made .successful-kept) (apply o r) (step o r);
+  corrupted-waits = sets o r (λ s. s .corrupted) (λ a i. o ≡ Corrupted i) (λ d i s made. made .corrupted-set) (apply o r) (step o r);
+  corrupted-stays = clears o r (λ s. s .corrupted) (λ a i. renews o a i ≡ true) (λ d i s made. made .corrupted-kept) (apply o r) (step o r);
+  renewal-clears = renewals o r (apply o r) (step o r);
   tries-go = tries o r (apply o r) (step o r);
 }
 
@@ -103,10 +131,24 @@ started r k e =
     let known : (inUse r k ≡ true) × (mayStart (slotAt r k) ≡ true) × (startOf r .after .current ≡ k) = started-by r (startOf r) (step Start r) k e in
     record {
       in-use = known .0;
-      bootable = not-true (slotAt r k .unbootable) (and-left (not (slotAt r k .unbootable)) (slotAt r k .successful || ltb 0 (slotAt r k .tries)) (known .1));
+      bootable = starts-bootable (slotAt r k) (known .1);
+      intact = starts-intact (slotAt r k) (known .1);
       could-start = known .1;
       is-current = known .2;
     }
+
+-- a corrupted slot that is current gives way
+module _ (r : Record) (v : valid r ≡ true) (e : currentSlot r .corrupted ≡ true) where
+  abbrev Gone : Slot → Type 0
+  Gone s = (s .unbootable ≡ true) × (s .successful ≡ false)
+
+  gone : Gone (slotAt (replaced r (r .current) (marked (currentSlot r))) (r .current))
+  gone = subst Gone (sym (replaced-here r (r .current) (marked (currentSlot r)) (valid-in-use r v))) (refl, refl)
+
+  pub gives-way : Gone (slotAt (startOf r .after) (r .current))
+  gives-way =
+      subst (λ (c : Change). Gone (slotAt (c .after) (r .current))) (sym (start-other r v (corrupted-stuck (currentSlot r) e)))
+      (by-cond (ltb (firstOther r) 4) (λ (c : Change). Gone (slotAt (c .after) (r .current))) (λ _. gone) (λ _. gone))
 
 -- a fresh record for 1 to 4 slots is valid
 pub fresh-valid : (n : ℕ) → 1 ≤ n → n ≤ 4 → (freshOf n .answer ≡ accepted done) × (valid (freshOf n .after) ≡ true)
@@ -117,6 +159,20 @@ fresh-valid (suc (suc zero)) h l = (refl, refl)
 fresh-valid (suc (suc (suc zero))) h l = (refl, refl)
 fresh-valid (suc (suc (suc (suc zero)))) h l = (refl, refl)
 fresh-valid (suc (suc (suc (suc (suc n))))) h l = absurd (omega arith)
+
+-- a fresh record, or the one beside its refusal, has no corrupted slot
+new-clear : (n t i : ℕ) → slotAt (newRecord n t) i .corrupted ≡ false
+new-clear n t zero = refl
+new-clear n t (suc zero) = refl
+new-clear n t (suc (suc zero)) = refl
+new-clear n t (suc (suc (suc zero))) = refl
+new-clear n t (suc (suc (suc (suc i)))) = refl
+
+pub fresh-clear : (n i : ℕ) → slotAt (freshOf n .after) i .corrupted ≡ false
+fresh-clear n i = go (leb 1 n && leb n 4) refl where
+  go : (b : Bool) → (leb 1 n && leb n 4) ≡ b → slotAt (freshOf n .after) i .corrupted ≡ false
+  go true e = ap (λ (c : Change). slotAt (c .after) i .corrupted) (fresh-made n e) ∙ new-clear n 3 i
+  go false e = ap (λ (c : Change). slotAt (c .after) i .corrupted) (fresh-none n e) ∙ new-clear 0 0 i
 
 -- no refusal has the number 0
 pub refusal-numbers : RefusalNumbers
@@ -131,8 +187,9 @@ pub past-d : PastD
 past-d = record {
   set-active = λ r k h. past-alike r k 4 k 4 (activated (slotAt r k)) (activated (slotAt r 4)) h (omega arith);
   modified = λ r k h. past-alike r k 4 (r .current) (r .current) (modified (slotAt r k)) (modified (slotAt r 4)) h (omega arith);
+  corrupted = λ r k h. past-alike r k 4 (r .current) (r .current) (damaged (slotAt r k)) (damaged (slotAt r 4)) h (omega arith);
   fresh = λ n h. fresh-past n h ∙ sym (fresh-past 5 (omega arith));
 }
 
 pub promises : Promises
-promises = record { lawful = lawful; started = started; fresh-valid = fresh-valid; refusal-numbers = refusal-numbers; past-d = past-d }
+promises = record { lawful = lawful; started = started; gives-way = gives-way; fresh-valid = fresh-valid; fresh-clear = fresh-clear; refusal-numbers = refusal-numbers; past-d = past-d }

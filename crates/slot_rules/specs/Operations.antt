@@ -7,7 +7,7 @@ use lib.Dec.{ltb, leb, eqb}
 use Rattle.rules.specs.First.{first}
 use Rattle.slot_rules.specs.declared.Slot.{Slot}
 use Rattle.slot_rules.specs.declared.Record.{Record}
-use Rattle.slot_rules.specs.OneSlot.{mayStart, mayTakeOver, mayConfirm, spent, marked, activated, modified, confirmed}
+use Rattle.slot_rules.specs.OneSlot.{mayStart, mayTakeOver, mayConfirm, spent, marked, activated, modified, damaged, confirmed}
 use Rattle.slot_rules.specs.Records.{slotAt, currentSlot, inUse, valid, replaced, withCurrent, newRecord}
 use Rattle.slot_rules.specs.Answers.{Change, starts, recovery, done, change, refusedOr}
 
@@ -40,7 +40,7 @@ firstOther r = firstFrom r 4 0
 abbrev pub takeOver : Record → ℕ → Change
 takeOver m k = cond (ltb k 4) (change (starts k) (withCurrent m k)) (change recovery m)
 
--- the current slot starts if it may; "Otherwise it is marked unbootable", and the first other slot takes over
+-- the current slot starts if it may; "Otherwise it is marked unbootable", a corrupted one too, and the first other slot takes over
 abbrev pub startEffect : Record → Change
 startEffect r =
     cond (mayStart (currentSlot r))
@@ -59,18 +59,22 @@ slotTests r k = (not (valid r), 31) ∷ (not (inUse r k), 32) ∷ []
 unfoldable pub onSlot : Record → ℕ → Slot → ℕ → Change
 onSlot r k s m = refusedOr (first (slotTests r k)) r (change done (withCurrent (replaced r k s) m))
 
--- Set active: "The slot becomes current, both flags clear, tries 3"
+-- Set active: "The slot becomes current", all flags clear, "tries 3"
 abbrev pub setActiveOf : Record → ℕ → Change
 setActiveOf r k = onSlot r k (activated (slotAt r k)) k
 
--- Partition modified: "The slot's successful flag clears, tries 3. Unbootable stays"
+-- Partition modified: successful and corrupted clear, "tries 3. Unbootable stays"
 abbrev pub modifiedOf : Record → ℕ → Change
 modifiedOf r k = onSlot r k (modified (slotAt r k)) (r .current)
 
--- 31: an invalid record; 33: "confirming an unbootable slot"
+-- Corrupted: "A new operation sets the flag on any slot in use", and changes nothing else
+abbrev pub corruptedOf : Record → ℕ → Change
+corruptedOf r k = onSlot r k (damaged (slotAt r k)) (r .current)
+
+-- 31: an invalid record; 33: "confirming an unbootable slot", or a corrupted one
 abbrev pub confirmTests : Record → List (Bool × ℕ)
 confirmTests r = (not (valid r), 31) ∷ (not (mayConfirm (currentSlot r)), 33) ∷ []
 
--- Confirm: "The current slot, if not unbootable, becomes successful"
+-- Confirm: the current slot, if neither unbootable nor corrupted, "becomes successful"
 unfoldable pub confirmOf : Record → Change
 confirmOf r = refusedOr (first (confirmTests r)) r (change done (replaced r (r .current) (confirmed (currentSlot r))))

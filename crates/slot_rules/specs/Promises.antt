@@ -1,23 +1,31 @@
 -- What holds of every operation on every record, valid or not.
 -- Assumes nothing.
 use mathlib.Core.Path.{_≡_}
-use mathlib.Core.Bool.{Bool, true, false, not, cond, _&&_}
+use mathlib.Core.Bool.{Bool, true, false, not, cond, _&&_, _||_}
 use Prim.Native.Nat.{ℕ, _-_, _<_, _≤_}
 use lib.Dec.{eqb}
 use Rattle.rules.specs.Answer.{Answer, accepted, refused, HasNumber}
 use Rattle.slot_rules.specs.declared.Slot.{Slot}
 use Rattle.slot_rules.specs.declared.Record.{Record}
 use Rattle.slot_rules.specs.declared.Op.{Op}
-use Rattle.slot_rules.specs.declared.Op.the-variants.{Start, SetActive, Modified, Confirm}
+use Rattle.slot_rules.specs.declared.Op.the-variants.{Start, SetActive, Modified, Corrupted, Confirm}
 use Rattle.slot_rules.specs.OneSlot.{mayStart}
-use Rattle.slot_rules.specs.Records.{slotAt, inUse, valid}
+use Rattle.slot_rules.specs.Records.{slotAt, currentSlot, inUse, valid}
 use Rattle.slot_rules.specs.Answers.{Deed, starts, recovery, done}
-use Rattle.slot_rules.specs.Operations.{freshOf, startOf, setActiveOf, modifiedOf}
+use Rattle.slot_rules.specs.Operations.{freshOf, startOf, setActiveOf, modifiedOf, corruptedOf}
 use Rattle.slot_rules.specs.Applied.{apply}
 
 -- the record after an operation
 abbrev pub after : Op → Record → Record
 after o r = apply o r .after
+
+-- the place of the slot that an operation is about
+abbrev pub about : Op → Record → ℕ
+about Start r = r .current
+about (SetActive k) r = k
+about (Modified k) r = k
+about (Corrupted k) r = k
+about Confirm r = r .current
 
 -- the answer starts slot i
 abbrev pub startsSlot : Answer Deed → ℕ → Bool
@@ -33,12 +41,33 @@ isDone (accepted recovery) = false
 isDone (accepted done) = true
 isDone (refused n p) = false
 
--- the tries of place i, whose slot was s, after an operation with the answer a: one less where i starts and is not successful, 3 where i was set active or modified, and otherwise as before
+-- set active or partition modified on slot i, not refused
+abbrev pub renews : Op → Answer Deed → ℕ → Bool
+renews Start a i = false
+renews (SetActive k) a i = isDone a && eqb i k
+renews (Modified k) a i = isDone a && eqb i k
+renews (Corrupted k) a i = false
+renews Confirm a i = false
+
+-- Confirm where slot i is current, not refused
+abbrev pub confirms : Op → Answer Deed → Record → ℕ → Bool
+confirms Start a r i = false
+confirms (SetActive k) a r i = false
+confirms (Modified k) a r i = false
+confirms (Corrupted k) a r i = false
+confirms Confirm a r i = isDone a && eqb i (r .current)
+
+-- Start where slot i is current and corrupted, which gives way
+abbrev pub givesWay : Op → Record → ℕ → Bool
+givesWay Start r i = eqb i (r .current) && slotAt r i .corrupted
+givesWay (SetActive k) r i = false
+givesWay (Modified k) r i = false
+givesWay (Corrupted k) r i = false
+givesWay Confirm r i = false
+
+-- the tries of place i, whose slot was s, after an operation with the answer a: 3 where i was set active or modified, one less where i starts and is not successful, and otherwise as before
 abbrev pub triesAfter : Op → Answer Deed → ℕ → Slot → ℕ
-triesAfter Start a i s = cond (startsSlot a i && not (s .successful)) (s .tries - 1) (s .tries)
-triesAfter (SetActive k) a i s = cond (isDone a && eqb i k) 3 (s .tries)
-triesAfter (Modified k) a i s = cond (isDone a && eqb i k) 3 (s .tries)
-triesAfter Confirm a i s = s .tries
+triesAfter o a i s = cond (renews o a i) 3 (cond (startsSlot a i && not (s .successful)) (s .tries - 1) (s .tries))
 
 -- the laws of all operations
 pub record Lawful (o : Op) (r : Record) : Type 0 where
@@ -48,12 +77,22 @@ pub record Lawful (o : Op) (r : Record) : Type 0 where
   pub stays-valid : valid r ≡ true → valid (after o r) ≡ true
   -- "unused places are ignored and kept"
   pub unused-kept : (i : ℕ) → slotAt r i .used ≡ false → slotAt (after o r) i ≡ slotAt r i
+  -- no slot changes but the one that the operation is about: a corrupted slot that is not current outlasts Start as it is
+  pub others-kept : (i : ℕ) → (i ≡ about o r → ⊥) → slotAt (after o r) i ≡ slotAt r i
   -- no operation takes a slot into use, or out of it
   pub use-kept : (i : ℕ) → slotAt (after o r) i .used ≡ slotAt r i .used
   -- "only set active may" clear unbootable
   pub unbootable-stays : (i : ℕ) → slotAt r i .unbootable ≡ true → slotAt (after o r) i .unbootable ≡ false → o ≡ SetActive i
-  -- only Confirm sets successful, and only in the current slot
-  pub successful-waits : (i : ℕ) → slotAt r i .successful ≡ false → slotAt (after o r) i .successful ≡ true → (o ≡ Confirm) × (i ≡ r .current)
+  -- only Confirm sets successful, only in the current slot, and only where it is not refused
+  pub successful-waits : (i : ℕ) → slotAt r i .successful ≡ false → slotAt (after o r) i .successful ≡ true → confirms o (apply o r .answer) r i ≡ true
+  -- only set active and partition modified clear successful, and Start of a corrupted current slot
+  pub successful-stays : (i : ℕ) → slotAt r i .successful ≡ true → slotAt (after o r) i .successful ≡ false → (renews o (apply o r .answer) i || givesWay o r i) ≡ true
+  -- only the operation Corrupted sets corrupted, and only in its slot
+  pub corrupted-waits : (i : ℕ) → slotAt r i .corrupted ≡ false → slotAt (after o r) i .corrupted ≡ true → o ≡ Corrupted i
+  -- only set active and partition modified clear corrupted
+  pub corrupted-stays : (i : ℕ) → slotAt r i .corrupted ≡ true → slotAt (after o r) i .corrupted ≡ false → renews o (apply o r .answer) i ≡ true
+  -- set active and partition modified leave the slot neither successful nor corrupted
+  pub renewal-clears : (i : ℕ) → renews o (apply o r .answer) i ≡ true → (slotAt (after o r) i .successful ≡ false) × (slotAt (after o r) i .corrupted ≡ false)
   -- "A started slot that is not successful loses one try"; set active and modified give 3; nothing else changes tries
   pub tries-go : (i : ℕ) → slotAt (after o r) i .tries ≡ triesAfter o (apply o r .answer) i (slotAt r i)
 
@@ -61,6 +100,7 @@ pub record Lawful (o : Op) (r : Record) : Type 0 where
 pub record Started (r : Record) (k : ℕ) : Type 0 where
   pub in-use : inUse r k ≡ true
   pub bootable : slotAt r k .unbootable ≡ false
+  pub intact : slotAt r k .corrupted ≡ false
   pub could-start : mayStart (slotAt r k) ≡ true
   pub is-current : startOf r .after .current ≡ k
 
@@ -73,12 +113,17 @@ pub record RefusalNumbers : Type 0 where
 pub record PastD : Type 0 where
   pub set-active : (r : Record) (k : ℕ) → 4 ≤ k → setActiveOf r k ≡ setActiveOf r 4
   pub modified : (r : Record) (k : ℕ) → 4 ≤ k → modifiedOf r k ≡ modifiedOf r 4
+  pub corrupted : (r : Record) (k : ℕ) → 4 ≤ k → corruptedOf r k ≡ corruptedOf r 4
   pub fresh : (n : ℕ) → 4 < n → freshOf n ≡ freshOf 5
 
--- every operation is lawful, the slot that Start starts is in use and was not unbootable, and a fresh record for 1 to 4 slots is valid
+-- every operation is lawful; what Start starts is in use and was neither unbootable nor corrupted; a corrupted current slot gives way; a fresh record is valid, and its flags are clear
 pub record Promises : Type 0 where
   pub lawful : (o : Op) (r : Record) → Lawful o r
   pub started : (r : Record) (k : ℕ) → startOf r .answer ≡ accepted (starts k) → Started r k
+  -- "if current, Start marks it unbootable and clears its successful flag", also where the answer is Recovery
+  pub gives-way : (r : Record) → valid r ≡ true → currentSlot r .corrupted ≡ true → (slotAt (startOf r .after) (r .current) .unbootable ≡ true) × (slotAt (startOf r .after) (r .current) .successful ≡ false)
   pub fresh-valid : (n : ℕ) → 1 ≤ n → n ≤ 4 → (freshOf n .answer ≡ accepted done) × (valid (freshOf n .after) ≡ true)
+  -- "A fresh record has it clear": in all four places, and beside the refusal too
+  pub fresh-clear : (n i : ℕ) → slotAt (freshOf n .after) i .corrupted ≡ false
   pub refusal-numbers : RefusalNumbers
   pub past-d : PastD

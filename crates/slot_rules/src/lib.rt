@@ -5,6 +5,7 @@ pub struct Slot {
     pub used: bool,
     pub unbootable: bool,
     pub successful: bool,
+    pub corrupted: bool,
     pub tries: u8,
 }
 
@@ -33,5 +34,6 @@ pub enum Op {
     Start,
     SetActive(u8),
     Modified(u8),
+    Corrupted(u8),
     Confirm,
 }

@@ -189,7 +189,7 @@ pub extern "C" fn tarpaulark_locate(image: &[u8], out: &mut [u64; 19]) -> u32
 }
 
 // Hands a reply over: its bytes and its array to what is lent, its number to the caller.
-fn hand_over(made: Reply, bytes: &mut [u8; 17], out: &mut [u64; 2]) -> u32
+fn hand_over(made: Reply, bytes: &mut [u8; 21], out: &mut [u64; 2]) -> u32
     ensures { λ r. ⌜ (r ≡ made .number) × (now (out .exit) ≡ made .answer) × (now (bytes .exit) ≡ made .bytes) ⌝ }
 {
     let after = made.bytes;
@@ -203,7 +203,7 @@ fn hand_over(made: Reply, bytes: &mut [u8; 17], out: &mut [u64; 2]) -> u32
 #[no_mangle]
 pub extern "C" fn tarpaulark_slots_fresh(
     slots: u32,
-    bytes: &mut [u8; 17],
+    bytes: &mut [u8; 21],
     out: &mut [u64; 2],
 ) -> u32
     ensures { λ r. ⌜ (r ≡ freshBytes slots (now (bytes .entry)) .number)
@@ -216,7 +216,7 @@ pub extern "C" fn tarpaulark_slots_fresh(
 
 // Start.
 #[no_mangle]
-pub extern "C" fn tarpaulark_slots_start(bytes: &mut [u8; 17], out: &mut [u64; 2]) -> u32
+pub extern "C" fn tarpaulark_slots_start(bytes: &mut [u8; 21], out: &mut [u64; 2]) -> u32
     ensures { λ r. ⌜ (r ≡ onBytes Op.Start (now (bytes .entry)) .number)
         × (now (out .exit) ≡ onBytes Op.Start (now (bytes .entry)) .answer)
         × (now (bytes .exit) ≡ onBytes Op.Start (now (bytes .entry)) .bytes) ⌝ }
@@ -228,7 +228,7 @@ pub extern "C" fn tarpaulark_slots_start(bytes: &mut [u8; 17], out: &mut [u64; 2
 // Set active.
 #[no_mangle]
 pub extern "C" fn tarpaulark_slots_set_active(
-    bytes: &mut [u8; 17],
+    bytes: &mut [u8; 21],
     slot: u32,
     out: &mut [u64; 2],
 ) -> u32
@@ -243,7 +243,7 @@ pub extern "C" fn tarpaulark_slots_set_active(
 // Partition modified.
 #[no_mangle]
 pub extern "C" fn tarpaulark_slots_modified(
-    bytes: &mut [u8; 17],
+    bytes: &mut [u8; 21],
     slot: u32,
     out: &mut [u64; 2],
 ) -> u32
@@ -255,9 +255,24 @@ pub extern "C" fn tarpaulark_slots_modified(
     hand_over(made, bytes, out)
 }
 
+// Corrupted.
+#[no_mangle]
+pub extern "C" fn tarpaulark_slots_corrupted(
+    bytes: &mut [u8; 21],
+    slot: u32,
+    out: &mut [u64; 2],
+) -> u32
+    ensures { λ r. ⌜ (r ≡ onBytes (Op.Corrupted slot) (now (bytes .entry)) .number)
+        × (now (out .exit) ≡ onBytes (Op.Corrupted slot) (now (bytes .entry)) .answer)
+        × (now (bytes .exit) ≡ onBytes (Op.Corrupted slot) (now (bytes .entry)) .bytes) ⌝ }
+{
+    let made = slot_on_bytes::slot_corrupted(*bytes, slot);
+    hand_over(made, bytes, out)
+}
+
 // Confirm. The system calls this, never the loader.
 #[no_mangle]
-pub extern "C" fn tarpaulark_slots_confirm(bytes: &mut [u8; 17], out: &mut [u64; 2]) -> u32
+pub extern "C" fn tarpaulark_slots_confirm(bytes: &mut [u8; 21], out: &mut [u64; 2]) -> u32
     ensures { λ r. ⌜ (r ≡ onBytes Op.Confirm (now (bytes .entry)) .number)
         × (now (out .exit) ≡ onBytes Op.Confirm (now (bytes .entry)) .answer)
         × (now (bytes .exit) ≡ onBytes Op.Confirm (now (bytes .entry)) .bytes) ⌝ }
@@ -268,7 +283,7 @@ pub extern "C" fn tarpaulark_slots_confirm(bytes: &mut [u8; 17], out: &mut [u64;
 
 // Whether bytes are a valid slot record: 0, or 31.
 #[no_mangle]
-pub extern "C" fn tarpaulark_slots_valid(bytes: &[u8; 17]) -> u32
+pub extern "C" fn tarpaulark_slots_valid(bytes: &[u8; 21]) -> u32
     ensures { λ r. ⌜ r ≡ bytesRefusal (now (bytes .entry)) ⌝ }
 {
     slot_on_bytes::bytes_refusal(*bytes)

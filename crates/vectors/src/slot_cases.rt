@@ -2,12 +2,14 @@
 use crate::support::part;
 use crate::support::value;
 
-// The bytes of a case: operation, argument, record.
-const CASE: usize = 19;
+// The bytes of a record, and of a case: operation, argument, record.
+const RECORD: usize = 21;
 
-// The values of a case, a byte each: number, kind, slot, and the record after.
-fn gathered(number: u32, kind: &[u64; 2], record: &[u8; 17]) -> [u8; 20] {
-    let mut all = [0u8; 20];
+const CASE: usize = 23;
+
+// The values of an operation, a byte each: number, kind, slot, and the record after.
+fn gathered(number: u32, kind: &[u64; 2], record: &[u8; 21]) -> [u8; 24] {
+    let mut all = [0u8; 24];
     fields_write::copy(&mut all, 3, record);
     all[0] = (number % 256) as u8;
     all[1] = (kind[0] % 256) as u8;
@@ -15,41 +17,52 @@ fn gathered(number: u32, kind: &[u64; 2], record: &[u8; 17]) -> [u8; 20] {
     all
 }
 
-// What the operation of a case answers and leaves.
-fn outcome(case: &[u8]) -> [u8; 20] {
-    let head = fields_read::read16(case, 0);
-    let argument = (head / 256) as u32;
-    let mut record = [0u8; 17];
-    fields_write::copy(&mut record, 0, part(case, 2, 17));
+// What an operation on the record at the start of rest answers and leaves.
+fn outcome(operation: u32, argument: u32, rest: &[u8]) -> [u8; 24] {
+    let mut record = [0u8; 21];
+    fields_write::copy(&mut record, 0, part(rest, 0, RECORD));
     let mut kind = [0u64; 2];
-    let number = match head % 256 {
+    let number = match operation {
         0 => tarpaulark::tarpaulark_slots_fresh(argument, &mut record, &mut kind),
         1 => tarpaulark::tarpaulark_slots_start(&mut record, &mut kind),
         2 => tarpaulark::tarpaulark_slots_set_active(&mut record, argument, &mut kind),
         3 => tarpaulark::tarpaulark_slots_modified(&mut record, argument, &mut kind),
-        _ => tarpaulark::tarpaulark_slots_confirm(&mut record, &mut kind),
+        4 => tarpaulark::tarpaulark_slots_confirm(&mut record, &mut kind),
+        _ => tarpaulark::tarpaulark_slots_corrupted(&mut record, argument, &mut kind),
     };
     gathered(number, &kind, &record)
 }
 
 // Prints the values of the case at the start of rest, and answers how many bytes it takes.
 pub(crate) fn case(rest: &[u8]) -> usize {
-    let all = outcome(rest);
-    for i in 0usize..20 {
+    let head = fields_read::read16(rest, 0) as u32;
+    let all = outcome(head % 256, head / 256, part(rest, 2, RECORD));
+    for i in 0usize..24 {
         value(all[i] as u64);
     }
     CASE
 }
 
-// Prints the checksum over the values of the up to 64 cases at the start of rest, and answers how many bytes they take.
+// The checksum's state after the values of the six operations, each with the arguments 0 to 4, on the record.
+fn summed(state: u32, record: &[u8]) -> u32 {
+    let mut now = state;
+    let mut n: u32 = 0;
+    while n < 30 {
+        now = crc32::update(now, &outcome(n / 5, n % 5, record));
+        n = n + 1;
+    }
+    now
+}
+
+// Prints the checksum over the up to 64 records at the start of rest, and answers how many bytes they take.
 pub(crate) fn block(rest: &[u8]) -> usize {
-    let cases = part(rest, 0, 64 * CASE);
+    let records = part(rest, 0, 64 * RECORD);
     let mut state = crc32::start();
     let mut done: usize = 0;
-    while done < cases.len() {
-        state = crc32::update(state, &outcome(part(cases, done, CASE)));
-        done = done + CASE;
+    while done < records.len() {
+        state = summed(state, part(records, done, RECORD));
+        done = done + RECORD;
     }
     value(crc32::finish(state) as u64);
-    64 * CASE
+    64 * RECORD
 }

@@ -1,4 +1,4 @@
--- The worked examples P1 to P14 and the lister's texts, computed together: every call of the table gives back what its row says.
+-- The worked examples P1 to P14, those of request 4 and the lister's texts, computed together: every call of the table gives back what its row says.
 -- Assumes nothing.
 use mathlib.Core.Path.{refl}
 use lib.Count.{ones, onesIn}

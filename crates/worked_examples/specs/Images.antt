@@ -99,11 +99,15 @@ layout version kernel ramdisk second recovery dtb signature =
 
 -- a slot in use: unbootable, successful, tries
 abbrev pub slot : Bool → Bool → ℕ → Slot
-slot unbootable successful tries = record { used = true; unbootable = unbootable; successful = successful; tries = tries }
+slot unbootable successful tries = record { used = true; unbootable = unbootable; successful = successful; corrupted = false; tries = tries }
+
+-- one whose system is damaged
+abbrev pub corruptedSlot : Bool → Bool → ℕ → Slot
+corruptedSlot unbootable successful tries = record { used = true; unbootable = unbootable; successful = successful; corrupted = true; tries = tries }
 
 -- a place that is not used
 abbrev pub unused : Slot
-unused = record { used = false; unbootable = false; successful = false; tries = 0 }
+unused = record { used = false; unbootable = false; successful = false; corrupted = false; tries = 0 }
 
 -- a record of two slots, a and b
 abbrev pub two : ℕ → Slot → Slot → Record

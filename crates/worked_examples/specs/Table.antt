@@ -9,7 +9,7 @@ use Rattle.rules.specs.Answer.{accepted, refused}
 use Rattle.slot_rules.specs.Answers as slots
 use Rattle.text_rules.specs.Words.{ascii}
 use Rattle.worked_examples.specs.Calls.{Row, perform, stores, writes, locates, starts, lists, stored, written, located, started, listed}
-use Rattle.worked_examples.specs.Images.{emptyImage, twoChunks, p2, p7, counts, upFrom, flat, flatImage, boot3, boot2, section, none, layout, slot, two}
+use Rattle.worked_examples.specs.Images.{emptyImage, twoChunks, p2, p7, counts, upFrom, flat, flatImage, boot3, boot2, section, none, layout, slot, corruptedSlot, two}
 
 -- P1: "writing 0 bytes at block size 4,096"
 abbrev pub row1 : Row
@@ -103,6 +103,22 @@ row14 =
       result = started (slots.change (slots.starts 0) (two 0 (slot false false 0) (slot false false 3)));
     }
 
+-- request 4: "A corrupted slot may not start, successful or not: if current, Start marks it unbootable and clears its successful flag"
+abbrev pub rowCorrupted : Row
+rowCorrupted =
+    record {
+      call = starts (two 0 (corruptedSlot false true 3) (slot false true 0));
+      result = started (slots.change (slots.starts 1) (two 1 (corruptedSlot true false 3) (slot false true 0)));
+    }
+
+-- request 4: "and it is no candidate"
+abbrev pub rowNoCandidate : Row
+rowNoCandidate =
+    record {
+      call = starts (two 0 (slot false false 0) (corruptedSlot false true 3));
+      result = started (slots.change slots.recovery (two 0 (slot true false 0) (corruptedSlot false true 3)));
+    }
+
 -- the lister: "For P2 it prints exactly", and as request 3 has its last line
 abbrev pub rowListed : Row
 rowListed =
@@ -119,10 +135,10 @@ rowListedUnknown =
       result = listed (ascii "block 4 total 3 chunks 2\n0 fill 1\n1 unknown 2\nok written 1 skipped 0 unknown 2\n");
     }
 
--- P1 to P14, and the lister's texts
+-- P1 to P14, two of request 4, and the lister's texts
 abbrev pub table : List Row
 table =
-    row1 ∷ row2 ∷ row3 ∷ row4 ∷ row5 ∷ row6 ∷ row7 ∷ row8 ∷ row8One ∷ row9 ∷ row9Short ∷ row10 ∷ row10Short ∷ row11 ∷ row12 ∷ row13 ∷ row14 ∷ rowListed ∷ rowListedUnknown ∷ []
+    row1 ∷ row2 ∷ row3 ∷ row4 ∷ row5 ∷ row6 ∷ row7 ∷ row8 ∷ row8One ∷ row9 ∷ row9Short ∷ row10 ∷ row10Short ∷ row11 ∷ row12 ∷ row13 ∷ row14 ∷ rowCorrupted ∷ rowNoCandidate ∷ rowListed ∷ rowListedUnknown ∷ []
 
 -- every call of the table gives back what its row says
 abbrev pub Worked : Type 0

@@ -37,14 +37,23 @@ add-n-2 c = search needs
 array-write-n-3 : tie.Need-array-write-n-3
 array-write-n-3 c = search needs
 
+flag-byte-requires-4 : tie.Need-flag-byte-requires-4
+flag-byte-requires-4 c κs = search needs
+
 add-n-3 : tie.Need-add-n-3
 add-n-3 c = search needs
 
 array-write-n-4 : tie.Need-array-write-n-4
 array-write-n-4 c = search needs
 
+add-n-4 : tie.Need-add-n-4
+add-n-4 c = search needs
+
+array-write-n-5 : tie.Need-array-write-n-5
+array-write-n-5 c = search needs
+
 returns : tie.Need-returns
-returns c = put (c .before .before .before .before .args .b) (c .before .before .before .before .args .t2) (c .before .before .before .before .args .k) (c .before .before .flag-byte .ensures) (c .before .flag-byte2 .ensures) (c .flag-byte3 .ensures)
+returns c = put (c .before .before .before .before .before .args .b) (c .before .before .before .before .before .args .t2) (c .before .before .before .before .before .args .k) (c .before .before .before .flag-byte .ensures) (c .before .before .flag-byte2 .ensures) (c .before .flag-byte3 .ensures) (c .flag-byte4 .ensures)
 
 pub put-slot-spec : {M : Type 1} → statement M
 put-slot-spec =
@@ -61,6 +70,9 @@ put-slot-spec =
     flag-byte-requires-3
     add-n-2
     array-write-n-3
+    flag-byte-requires-4
     add-n-3
     array-write-n-4
+    add-n-4
+    array-write-n-5
     returns)

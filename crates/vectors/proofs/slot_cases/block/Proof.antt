@@ -1,4 +1,4 @@
--- `vectors::slot_cases::block` meets its contract: each turn passes a case. Assumes nothing.
+-- `vectors::slot_cases::block` meets its contract: each turn passes a record. Assumes nothing.
 use Prim.Native.Nat.{_-_}
 use lib.ListN.{length}
 use borrow.Author.Needs.{needs}
@@ -6,10 +6,10 @@ use Rattle.vectors.proofs.slot_cases.block.Statement.{statement}
 use Rattle.vectors.proofs.slot_cases.block.Tie as tie
 
 abbrev Inv-loop : tie.InvT-loop
-Inv-loop rest cases state₀ done₀ state done = Unit {0}
+Inv-loop rest records state₀ done₀ state done = Unit {0}
 
 abbrev μ-loop : tie.MeasureT-loop
-μ-loop rest cases state₀ done₀ state done = length cases - done
+μ-loop rest records state₀ done₀ state done = length records - done
 
 mul-part : tie.Need-mul-part Inv-loop μ-loop
 mul-part c = search needs
@@ -26,14 +26,8 @@ loop-holds c = search needs
 part-requires-2 : tie.Need-part-requires-2 Inv-loop μ-loop
 part-requires-2 c κs = search needs
 
-outcome-requires : tie.Need-outcome-requires Inv-loop μ-loop
-outcome-requires c κs = search needs
-
-slice-aggregate-update : tie.Need-slice-aggregate-update Inv-loop μ-loop
-slice-aggregate-update c = search needs
-
-update-requires : tie.Need-update-requires Inv-loop μ-loop
-update-requires c κs = search needs
+summed-requires : tie.Need-summed-requires Inv-loop μ-loop
+summed-requires c κs = search needs
 
 add-done : tie.Need-add-done Inv-loop μ-loop
 add-done c = search needs
@@ -70,9 +64,7 @@ block-spec =
     start-requires
     loop-holds
     part-requires-2
-    outcome-requires
-    slice-aggregate-update
-    update-requires
+    summed-requires
     add-done
     loop-less
     loop-again

@@ -5,10 +5,19 @@ use Rattle.vectors.proofs.slot_cases.case.Statement.{statement}
 use Rattle.vectors.proofs.slot_cases.case.Tie as tie
 
 abbrev Inv-loop : tie.InvT-loop
-Inv-loop rest all i₀ i = Unit {0}
+Inv-loop rest head all i₀ i = Unit {0}
 
 abbrev μ-loop : tie.MeasureT-loop
-μ-loop rest all i₀ i = 20 - i
+μ-loop rest head all i₀ i = 24 - i
+
+read16-requires : tie.Need-read16-requires Inv-loop μ-loop
+read16-requires c κs = search needs
+
+cast-head : tie.Need-cast-head Inv-loop μ-loop
+cast-head c = search needs
+
+part-requires : tie.Need-part-requires Inv-loop μ-loop
+part-requires c κs = search needs
 
 outcome-requires : tie.Need-outcome-requires Inv-loop μ-loop
 outcome-requires c κs = search needs
@@ -43,6 +52,9 @@ case-spec =
     (tie.spec
     Inv-loop
     μ-loop
+    read16-requires
+    cast-head
+    part-requires
     outcome-requires
     loop-holds
     array-read-value
