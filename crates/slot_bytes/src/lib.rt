@@ -7,6 +7,9 @@ ghost use lib.Seq.{sets};
 ghost use Rattle.slot_rules.specs.Records.{slotAt};
 ghost use Rattle.slot_bytes.specs.Record.{flag, slotBytes, recordBytes, slotFrom, recordOf, areFlags, isRecord};
 
+// The bytes of a record.
+pub const RECORD: usize = 21;
+
 // A flag as a number: 1 where it is set.
 pub fn flag_byte(f: bool) -> u8
     ensures { λ r. ⌜ r ≡ flag f ⌝ }
@@ -15,7 +18,7 @@ pub fn flag_byte(f: bool) -> u8
 }
 
 // The bytes b with those of the slot at place k in theirs.
-fn put_slot(b: [u8; 21], r: Record, k: usize) -> [u8; 21]
+fn put_slot(b: [u8; RECORD], r: Record, k: usize) -> [u8; RECORD]
     requires { ⌜ k < 4 ⌝ }
     ensures { λ n. ⌜ n ≡ sets b (k * 5) (slotBytes (slotAt r k)) ⌝ }
 {
@@ -31,10 +34,10 @@ fn put_slot(b: [u8; 21], r: Record, k: usize) -> [u8; 21]
 }
 
 // A record's bytes.
-pub fn record_bytes(r: Record) -> [u8; 21]
+pub fn record_bytes(r: Record) -> [u8; RECORD]
     ensures { λ b. ⌜ b ≡ recordBytes r ⌝ }
 {
-    let a = put_slot([0; 21], r, 0);
+    let a = put_slot([0; RECORD], r, 0);
     let b = put_slot(a, r, 1);
     let c = put_slot(b, r, 2);
     let mut d = put_slot(c, r, 3);
@@ -43,7 +46,7 @@ pub fn record_bytes(r: Record) -> [u8; 21]
 }
 
 // The slot that the five bytes from i on say.
-fn slot_from(b: [u8; 21], i: usize) -> Slot
+fn slot_from(b: [u8; RECORD], i: usize) -> Slot
     requires { ⌜ i ≤ 15 ⌝ }
     ensures { λ s. ⌜ s ≡ slotFrom b i ⌝ }
 {
@@ -57,7 +60,7 @@ fn slot_from(b: [u8; 21], i: usize) -> Slot
 }
 
 // The record that bytes say.
-pub fn record_of(b: [u8; 21]) -> Record
+pub fn record_of(b: [u8; RECORD]) -> Record
     ensures { λ r. ⌜ r ≡ recordOf b ⌝ }
 {
     let s = slot_from(b, 0);
@@ -71,7 +74,7 @@ pub fn record_of(b: [u8; 21]) -> Record
 }
 
 // Whether the four bytes from i on are flags, each 0 or 1.
-fn are_flags(b: [u8; 21], i: usize) -> bool
+fn are_flags(b: [u8; RECORD], i: usize) -> bool
     requires { ⌜ i ≤ 15 ⌝ }
     ensures { λ r. ⌜ r ≡ areFlags b i ⌝ }
 {
@@ -79,7 +82,7 @@ fn are_flags(b: [u8; 21], i: usize) -> bool
 }
 
 // Whether bytes are a record: each flag byte is 0 or 1.
-pub fn is_record(b: [u8; 21]) -> bool
+pub fn is_record(b: [u8; RECORD]) -> bool
     ensures { λ r. ⌜ r ≡ isRecord b ⌝ }
 {
     are_flags(b, 0) & are_flags(b, 5) & are_flags(b, 10) & are_flags(b, 15)

@@ -1,5 +1,6 @@
 // The operations on the bytes of a slot record, for any number of a slot. specs/OnBytes.antt says what
 // each answers and leaves.
+use slot_bytes::RECORD;
 use slot_bytes::is_record;
 use slot_bytes::record_bytes;
 use slot_bytes::record_of;
@@ -15,11 +16,11 @@ ghost use Rattle.slot_on_bytes.specs.OnBytes.{replyOf, onBytes, freshByt
 pub struct Reply {
     pub number: u32,
     pub answer: [u64; 2],
-    pub bytes: [u8; 21],
+    pub bytes: [u8; RECORD],
 }
 
 // A change of a record, as numbers and as what becomes of the bytes b: a refusal leaves them.
-fn reply_of(b: [u8; 21], c: Changed) -> Reply
+fn reply_of(b: [u8; RECORD], c: Changed) -> Reply
     ensures { λ r. ⌜ r ≡ replyOf b (changeOf c) ⌝ }
 {
     let a = c.answer;
@@ -50,7 +51,7 @@ fn reply_of(b: [u8; 21], c: Changed) -> Reply
 }
 
 // An operation on bytes; bytes that are no record are refused with 31.
-pub fn operate(bytes: [u8; 21], op: Op) -> Reply
+pub fn operate(bytes: [u8; RECORD], op: Op) -> Reply
     ensures { λ r. ⌜ r ≡ onBytes op bytes ⌝ }
 {
     let r = record_of(bytes);
@@ -70,7 +71,7 @@ fn clip(n: u32) -> u8
 }
 
 // A fresh record in the place of bytes, for any number of slots.
-pub fn fresh(bytes: [u8; 21], slots: u32) -> Reply
+pub fn fresh(bytes: [u8; RECORD], slots: u32) -> Reply
     ensures { λ r. ⌜ r ≡ freshBytes slots bytes ⌝ }
 {
     let c = slot_record::fresh(clip(slots));
@@ -78,28 +79,28 @@ pub fn fresh(bytes: [u8; 21], slots: u32) -> Reply
 }
 
 // Set active on bytes, for any number of a slot.
-pub fn set_active(bytes: [u8; 21], slot: u32) -> Reply
+pub fn set_active(bytes: [u8; RECORD], slot: u32) -> Reply
     ensures { λ r. ⌜ r ≡ onBytes (Op.SetActive slot) bytes ⌝ }
 {
     operate(bytes, Op::SetActive(clip(slot)))
 }
 
 // Partition modified on bytes, for any number of a slot.
-pub fn partition_modified(bytes: [u8; 21], slot: u32) -> Reply
+pub fn partition_modified(bytes: [u8; RECORD], slot: u32) -> Reply
     ensures { λ r. ⌜ r ≡ onBytes (Op.Modified slot) bytes ⌝ }
 {
     operate(bytes, Op::Modified(clip(slot)))
 }
 
 // Corrupted on bytes, for any number of a slot.
-pub fn slot_corrupted(bytes: [u8; 21], slot: u32) -> Reply
+pub fn slot_corrupted(bytes: [u8; RECORD], slot: u32) -> Reply
     ensures { λ r. ⌜ r ≡ onBytes (Op.Corrupted slot) bytes ⌝ }
 {
     operate(bytes, Op::Corrupted(clip(slot)))
 }
 
 // 0 where bytes are a valid record, else 31.
-pub fn bytes_refusal(bytes: [u8; 21]) -> u32
+pub fn bytes_refusal(bytes: [u8; RECORD]) -> u32
     ensures { λ r. ⌜ r ≡ bytesRefusal bytes ⌝ }
 {
     let r = record_of(bytes);

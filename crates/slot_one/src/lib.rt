@@ -78,13 +78,11 @@ pub fn activate(s: Slot) -> Slot
 pub fn modify(s: Slot) -> Slot
     ensures { λ t. ⌜ t ≡ modified s ⌝ }
 {
-    Slot {
-        used: s.used,
-        unbootable: s.unbootable,
-        successful: false,
-        corrupted: false,
-        tries: 3,
-    }
+    let mut renewed = s;
+    renewed.successful = false;
+    renewed.corrupted = false;
+    renewed.tries = 3;
+    renewed
 }
 
 // The slot after its system was found corrupted.
@@ -109,12 +107,11 @@ pub fn make_successful(s: Slot) -> Slot
 pub fn new_slot(used: bool, tries: u8) -> Slot
     ensures { λ t. ⌜ t ≡ newSlot used tries ⌝ }
 {
-    let clear = false;
     Slot {
         used: used,
-        unbootable: clear,
-        successful: clear,
-        corrupted: clear,
+        unbootable: false,
+        successful: false,
+        corrupted: false,
         tries: tries,
     }
 }

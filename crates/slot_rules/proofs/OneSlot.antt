@@ -7,7 +7,7 @@ use native.Mathlib.Omega.{arith}
 use lib.Dec.{ltb, leb}
 use borrow.Author.Tests.{not-true, leb-true, le-leb}
 use Rattle.slot_rules.specs.declared.Slot.{Slot}
-use Rattle.slot_rules.specs.OneSlot.{slotValid, sound, mayStart, mayTakeOver, mayConfirm, withTries, spent, marked, activated, modified, damaged, confirmed}
+use Rattle.slot_rules.specs.OneSlot.{slotValid, sound, mayStart, mayTakeOver, mayConfirm, withTries, spent, marked, damaged, confirmed}
 use Rattle.slot_rules.proofs.Tests.{and-left, and-right, and-false}
 
 -- what two tests that differ prove
@@ -19,7 +19,7 @@ pub by-cond : {A : Type 0} (b : Bool) {x y : A} (Q : A → Type 0) → (b ≡ tr
 by-cond true Q f g = f refl
 by-cond false Q f g = g refl
 
--- the tests of a slot, as tests of its flags: d used, u unbootable, s successful, c corrupted, a tries at most 7, b tries above 0
+-- the tests of a slot, as tests of its flags: d used, u unbootable, s successful, c corrupted, a tries at most 7, l so too with one try less, b tries above 0
 less-valid : (d u s a l : Bool) → (a ≡ true → l ≡ true) → (not d || (a && not (u && s))) ≡ true → (not d || (l && not (u && s))) ≡ true
 less-valid false u s a l f e = refl
 less-valid true u s true l f e = ap (λ (x : Bool). x && not (u && s)) (f refl) ∙ e
@@ -30,19 +30,15 @@ mark-valid false u s a e = refl
 mark-valid true u s true e = refl
 mark-valid true u s false e = clash refl (sym e)
 
-modify-valid : (d u : Bool) → (not d || (true && not (u && false))) ≡ true
-modify-valid false u = refl
-modify-valid true false = refl
-modify-valid true true = refl
+pub renewed-valid : (d u : Bool) → (not d || (true && not (u && false))) ≡ true
+renewed-valid false u = refl
+renewed-valid true false = refl
+renewed-valid true true = refl
 
 confirm-valid : (d u s a : Bool) → (not d || (a && not (u && s))) ≡ true → not u ≡ true → (not d || (a && not (u && true))) ≡ true
 confirm-valid false u s a e f = refl
 confirm-valid true true s a e f = clash f refl
 confirm-valid true false s a e f = e
-
-no-start : (u c x : Bool) → c ≡ true → ((not u && not c) && x) ≡ false
-no-start true c x e = refl
-no-start false c x e = ap (λ (y : Bool). not y && x) e
 
 why-no-start : (d u s c a b : Bool) → d ≡ true → (not d || (a && not (u && s))) ≡ true → ((not u && not c) && (s || b)) ≡ false → s ≡ true → c ≡ true
 why-no-start d u s true a b h v m e = refl
@@ -54,33 +50,31 @@ why-no-start true false true false a b h v m e = clash refl m
 one-less : (n : ℕ) → leb n 7 ≡ true → leb (n - 1) 7 ≡ true
 one-less n e = let h : n ≤ 7 = leb-true n 7 e in let l : n - 1 ≤ 7 = omega arith in le-leb (n - 1) 7 l
 
-module _ (s : Slot) where
-  pub activated-valid : slotValid (activated s) ≡ true
-  activated-valid = modify-valid (s .used) false
+-- what an operation makes of a valid slot is valid
+module _ (s : Slot) (v : slotValid s ≡ true) where
+  pub spent-valid : slotValid (spent s) ≡ true
+  spent-valid = by-cond (s .successful) (λ (t : Slot). slotValid t ≡ true) (λ _. v) (λ _. less-valid (s .used) (s .unbootable) (s .successful) (leb (s .tries) 7) (leb (s .tries - 1) 7) (one-less (s .tries)) v)
 
-  pub modified-valid : slotValid (modified s) ≡ true
-  modified-valid = modify-valid (s .used) (s .unbootable)
+  pub marked-valid : slotValid (marked s) ≡ true
+  marked-valid = mark-valid (s .used) (s .unbootable) (s .successful) (leb (s .tries) 7) v
 
-  module _ (v : slotValid s ≡ true) where
-    pub spent-valid : slotValid (spent s) ≡ true
-    spent-valid = by-cond (s .successful) (λ (t : Slot). slotValid t ≡ true) (λ _. v) (λ _. less-valid (s .used) (s .unbootable) (s .successful) (leb (s .tries) 7) (leb (s .tries - 1) 7) (one-less (s .tries)) v)
+  pub damaged-valid : slotValid (damaged s) ≡ true
+  damaged-valid = v
 
-    pub marked-valid : slotValid (marked s) ≡ true
-    marked-valid = mark-valid (s .used) (s .unbootable) (s .successful) (leb (s .tries) 7) v
+  pub confirmed-valid : mayConfirm s ≡ true → slotValid (confirmed s) ≡ true
+  confirmed-valid e = confirm-valid (s .used) (s .unbootable) (s .successful) (leb (s .tries) 7) v (and-left (not (s .unbootable)) (not (s .corrupted)) e)
 
-    pub damaged-valid : slotValid (damaged s) ≡ true
-    damaged-valid = v
+  -- a slot in use that is successful and yet may not start is corrupted
+  pub stuck-corrupted : s .used ≡ true → mayStart s ≡ false → s .successful ≡ true → s .corrupted ≡ true
+  stuck-corrupted u = why-no-start (s .used) (s .unbootable) (s .successful) (s .corrupted) (leb (s .tries) 7) (ltb 0 (s .tries)) u v
 
-    pub confirmed-valid : mayConfirm s ≡ true → slotValid (confirmed s) ≡ true
-    confirmed-valid e = confirm-valid (s .used) (s .unbootable) (s .successful) (leb (s .tries) 7) v (and-left (not (s .unbootable)) (not (s .corrupted)) e)
+-- a corrupted slot is not sound, and so may not start
+module _ (s : Slot) (e : s .corrupted ≡ true) where
+  pub corrupted-unsound : sound s ≡ false
+  corrupted-unsound = ap (λ (c : Bool). not (s .unbootable) && not c) e ∙ and-false (not (s .unbootable))
 
-    -- a slot in use that is successful and yet may not start is corrupted
-    pub stuck-corrupted : s .used ≡ true → mayStart s ≡ false → s .successful ≡ true → s .corrupted ≡ true
-    stuck-corrupted u = why-no-start (s .used) (s .unbootable) (s .successful) (s .corrupted) (leb (s .tries) 7) (ltb 0 (s .tries)) u v
-
--- a corrupted slot may not start
-pub corrupted-stuck : (s : Slot) → s .corrupted ≡ true → mayStart s ≡ false
-corrupted-stuck s = no-start (s .unbootable) (s .corrupted) (s .successful || ltb 0 (s .tries))
+  pub corrupted-stuck : mayStart s ≡ false
+  corrupted-stuck = ap (λ (b : Bool). b && (s .successful || ltb 0 (s .tries))) corrupted-unsound
 
 -- a slot that may start is neither unbootable nor corrupted
 module _ (s : Slot) (e : mayStart s ≡ true) where
@@ -107,7 +101,7 @@ module _ (s : Slot) (e : mayTakeOver s ≡ true) where
   pub over-starts : mayStart s ≡ true
   over-starts = simp (and-right (s .used && s .successful) (sound s) e, over-successful)
 
--- what is no matter of its tries, a slot that started has as before
+-- what does not look at the tries is the same of a slot after it starts
 pub spent-same : {A : Type 0} (s : Slot) (f : Slot → A) → f (withTries s (s .tries - 1)) ≡ f s → f (spent s) ≡ f s
 spent-same s f e = by-cond (s .successful) (λ (t : Slot). f t ≡ f s) (λ _. refl) (λ _. e)
 

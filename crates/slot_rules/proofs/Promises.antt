@@ -14,15 +14,15 @@ use Rattle.slot_rules.specs.declared.Op.{Op}
 use Rattle.slot_rules.specs.declared.Op.the-variants.{Start, SetActive, Modified, Corrupted, Confirm}
 use Rattle.slot_rules.specs.OneSlot.{slotValid, mayStart, marked, activated, modified, damaged}
 use Rattle.slot_rules.specs.Records.{slotAt, currentSlot, inUse, slotsValid, valid, replaced, withCurrent, newRecord}
-use Rattle.slot_rules.specs.Answers.{Deed, starts, done, Change}
-use Rattle.slot_rules.specs.Operations.{freshTests, freshOf, firstOther, startOf}
+use Rattle.slot_rules.specs.Answers.{Deed, starts, done, Change, change}
+use Rattle.slot_rules.specs.Operations.{freshTests, freshOf, firstOther, startOf, corruptedOf, confirmOf}
 use Rattle.slot_rules.specs.Applied.{apply}
-use Rattle.slot_rules.specs.Promises.{about, isDone, renews, confirms, givesWay, triesAfter, Lawful, Started, RefusalNumbers, PastD, Promises}
+use Rattle.slot_rules.specs.Promises.{about, startsSlot, isDone, renews, confirms, givesWay, triesAfter, Lawful, Started, Damages, RefusalNumbers, PastD, Promises}
 use Rattle.rules.proofs.Answer.{has-number}
 use Rattle.slot_rules.proofs.Tests.{and-right, and-false}
-use Rattle.slot_rules.proofs.OneSlot.{clash, by-cond, corrupted-stuck, starts-bootable, starts-intact}
+use Rattle.slot_rules.proofs.OneSlot.{clash, by-cond, corrupted-unsound, corrupted-stuck, starts-bootable, starts-intact}
 use Rattle.slot_rules.proofs.Answers.{starts-none, not-refused, refusedOr-numbered}
-use Rattle.slot_rules.proofs.Laws.{valid-in-use, start-other, past-alike, fresh-made, fresh-none, fresh-past}
+use Rattle.slot_rules.proofs.Laws.{valid-in-use, start-other, on-slot-done, confirm-unsound, past-alike, fresh-made, fresh-none, fresh-past}
 use Rattle.slot_rules.proofs.Places.{replaced-here, by-place, each-valid, all-valid, in-use-used}
 use Rattle.slot_rules.proofs.Steps.{Made, Step, refusal, entry, step}
 
@@ -96,6 +96,10 @@ module _ (o : Op) (r : Record) where
       by-place r i s (known .place-used) (λ (j : ℕ) (t : Slot). renews o (accepted d) j ≡ true → (t .successful ≡ false) × (t .corrupted ≡ false)) (known .made .renewed)
       (λ j h e. clash e (others-not-renewed o r (accepted d) j (λ q. h (q ∙ sym (known .at-place))))) j e
 
+  starting : (c : Change) → Step o r c → (i : ℕ) → startsSlot (c .answer) i ≡ true → o ≡ Start
+  starting _ (refusal _ _) j e = clash e refl
+  starting _ (entry d i s k known) j e = known .who-starts j e
+
   tries : (c : Change) → Step o r c → (i : ℕ) → slotAt (c .after) i .tries ≡ triesAfter o (c .answer) i (slotAt r i)
   tries _ (refusal n _) j = sym (ap (λ (b : Bool). cond b 3 (slotAt r j .tries)) (not-renewed o n 0 j))
   tries _ (entry d i s k known) j =
@@ -116,6 +120,7 @@ lawful o r = record {
   corrupted-waits = sets o r (λ s. s .corrupted) (λ a i. o ≡ Corrupted i) (λ d i s made. made .corrupted-set) (apply o r) (step o r);
   corrupted-stays = clears o r (λ s. s .corrupted) (λ a i. renews o a i ≡ true) (λ d i s made. made .corrupted-kept) (apply o r) (step o r);
   renewal-clears = renewals o r (apply o r) (step o r);
+  start-alone = starting o r (apply o r) (step o r);
   tries-go = tries o r (apply o r) (step o r);
 }
 
@@ -150,6 +155,25 @@ module _ (r : Record) (v : valid r ≡ true) (e : currentSlot r .corrupted ≡ t
       subst (λ (c : Change). Gone (slotAt (c .after) (r .current))) (sym (start-other r v (corrupted-stuck (currentSlot r) e)))
       (by-cond (ltb (firstOther r) 4) (λ (c : Change). Gone (slotAt (c .after) (r .current))) (λ _. gone) (λ _. gone))
 
+-- what Corrupted does with a slot in use
+pub damages : (r : Record) (k : ℕ) → valid r ≡ true → inUse r k ≡ true → Damages r k
+damages r k v u = record {
+  taken = ap (λ (c : Change). c .answer) made;
+  flag-set = ap (λ (s : Slot). s .corrupted) here;
+  same-unbootable = ap (λ (s : Slot). s .unbootable) here;
+  same-successful = ap (λ (s : Slot). s .successful) here;
+  same-current = ap (λ (c : Change). c .after .current) made;
+} where
+  made : corruptedOf r k ≡ change done (replaced r k (damaged (slotAt r k)))
+  made = on-slot-done r v k (damaged (slotAt r k)) (r .current) u
+
+  here : slotAt (corruptedOf r k .after) k ≡ damaged (slotAt r k)
+  here = ap (λ (c : Change). slotAt (c .after) k) made ∙ replaced-here r k (damaged (slotAt r k)) u
+
+-- a corrupted slot is not confirmed
+pub not-confirmed : (r : Record) → valid r ≡ true → currentSlot r .corrupted ≡ true → confirmOf r .answer ≡ refused 33 0
+not-confirmed r v e = ap (λ (c : Change). c .answer) (confirm-unsound r v (corrupted-unsound (currentSlot r) e))
+
 -- a fresh record for 1 to 4 slots is valid
 pub fresh-valid : (n : ℕ) → 1 ≤ n → n ≤ 4 → (freshOf n .answer ≡ accepted done) × (valid (freshOf n .after) ≡ true)
 unfolding freshOf valid slotsValid
@@ -160,19 +184,22 @@ fresh-valid (suc (suc (suc zero))) h l = (refl, refl)
 fresh-valid (suc (suc (suc (suc zero)))) h l = (refl, refl)
 fresh-valid (suc (suc (suc (suc (suc n))))) h l = absurd (omega arith)
 
--- a fresh record, or the one beside its refusal, has no corrupted slot
-new-clear : (n t i : ℕ) → slotAt (newRecord n t) i .corrupted ≡ false
-new-clear n t zero = refl
-new-clear n t (suc zero) = refl
-new-clear n t (suc (suc zero)) = refl
-new-clear n t (suc (suc (suc zero))) = refl
-new-clear n t (suc (suc (suc (suc i)))) = refl
+-- a fresh record, or the one beside its refusal, has every flag clear
+abbrev Clear : Slot → Type 0
+Clear s = (s .unbootable ≡ false) × (s .successful ≡ false) × (s .corrupted ≡ false)
 
-pub fresh-clear : (n i : ℕ) → slotAt (freshOf n .after) i .corrupted ≡ false
+new-clear : (n t i : ℕ) → Clear (slotAt (newRecord n t) i)
+new-clear n t zero = (refl, refl, refl)
+new-clear n t (suc zero) = (refl, refl, refl)
+new-clear n t (suc (suc zero)) = (refl, refl, refl)
+new-clear n t (suc (suc (suc zero))) = (refl, refl, refl)
+new-clear n t (suc (suc (suc (suc i)))) = (refl, refl, refl)
+
+pub fresh-clear : (n i : ℕ) → Clear (slotAt (freshOf n .after) i)
 fresh-clear n i = go (leb 1 n && leb n 4) refl where
-  go : (b : Bool) → (leb 1 n && leb n 4) ≡ b → slotAt (freshOf n .after) i .corrupted ≡ false
-  go true e = ap (λ (c : Change). slotAt (c .after) i .corrupted) (fresh-made n e) ∙ new-clear n 3 i
-  go false e = ap (λ (c : Change). slotAt (c .after) i .corrupted) (fresh-none n e) ∙ new-clear 0 0 i
+  go : (b : Bool) → (leb 1 n && leb n 4) ≡ b → Clear (slotAt (freshOf n .after) i)
+  go true e = subst (λ (c : Change). Clear (slotAt (c .after) i)) (sym (fresh-made n e)) (new-clear n 3 i)
+  go false e = subst (λ (c : Change). Clear (slotAt (c .after) i)) (sym (fresh-none n e)) (new-clear 0 0 i)
 
 -- no refusal has the number 0
 pub refusal-numbers : RefusalNumbers
@@ -192,4 +219,4 @@ past-d = record {
 }
 
 pub promises : Promises
-promises = record { lawful = lawful; started = started; gives-way = gives-way; fresh-valid = fresh-valid; fresh-clear = fresh-clear; refusal-numbers = refusal-numbers; past-d = past-d }
+promises = record { lawful = lawful; started = started; gives-way = gives-way; damages = damages; not-confirmed = not-confirmed; fresh-valid = fresh-valid; fresh-clear = fresh-clear; refusal-numbers = refusal-numbers; past-d = past-d }

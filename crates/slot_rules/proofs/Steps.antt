@@ -20,7 +20,7 @@ use Rattle.slot_rules.specs.Promises.{about, startsSlot, renews, confirm
 use Rattle.slot_rules.proofs.Tests.{and-left, and-right}
 use Rattle.slot_rules.proofs.Laws.{in-use-place, valid-in-use, start-own, start-other, start-invalid, on-slot-invalid, on-slot-unused, on-slot-done, confirm-invalid, confirm-unsound, confirm-done}
 use Rattle.slot_rules.proofs.Answers.{starts-one, starts-none}
-use Rattle.slot_rules.proofs.OneSlot.{clash, by-cond, activated-valid, modified-valid, spent-valid, spent-same, marked-valid, damaged-valid, confirmed-valid, stuck-corrupted, over-used, over-successful, over-starts}
+use Rattle.slot_rules.proofs.OneSlot.{clash, by-cond, renewed-valid, spent-valid, spent-same, marked-valid, damaged-valid, confirmed-valid, stuck-corrupted, over-used, over-successful, over-starts}
 use Rattle.slot_rules.proofs.Places.{each-valid, in-use-used}
 
 -- what is known of the slot s that o, which does d, puts in place i
@@ -42,6 +42,7 @@ pub record Entry (o : Op) (r : Record) (d : Deed) (i : ℕ) (s : Slot) (k : ℕ)
   pub place-used : inUse r i ≡ true
   pub current-used : inUse r k ≡ true
   pub started : (j : ℕ) → accepted d ≡ accepted (starts j) → (k ≡ j) × (mayStart (slotAt r k) ≡ true)
+  pub who-starts : (j : ℕ) → startsSlot (accepted d) j ≡ true → o ≡ Start
   pub no-try : (j : ℕ) → (j ≡ i → ⊥) → (startsSlot (accepted d) j && not (slotAt r j .successful)) ≡ false
 
 pub data Step (o : Op) (r : Record) : Change → Type 0 where
@@ -84,6 +85,7 @@ module _ (r : Record) (v : valid r ≡ true) where
     place-used = used;
     current-used = used;
     started = λ j e. (starts-one (r .current) j e, m);
+    who-starts = λ j e. refl;
     no-try = λ j h. simp (ne-eqb j (r .current) h);
   }
 
@@ -108,6 +110,7 @@ module _ (r : Record) (v : valid r ≡ true) where
       place-used = used;
       current-used = simp (lt-ltb k 4 h, over-used (slotAt r k) may);
       started = λ j e. (starts-one k j e, over-starts (slotAt r k) may);
+      who-starts = λ j e. refl;
       no-try = λ j _. by-place j (eqb j k) refl;
     } where
       may : mayTakeOver (slotAt r k) ≡ true
@@ -127,35 +130,30 @@ module _ (r : Record) (v : valid r ≡ true) where
       place-used = used;
       current-used = used;
       started = λ j. starts-none (accepted recovery) j refl;
+      who-starts = λ j e. refl;
       no-try = λ j h. refl;
     }
 
   module _ (k : ℕ) (u : inUse r k ≡ true) where
-    activated-made : Made (SetActive k) r done k (activated (slotAt r k))
-    activated-made = record {
+    -- what set active and partition modified share: they differ in the flag b, unbootable
+    renewed-made : (o : Op) (b : Bool) → renews o (accepted done) k ≡ true → (slotAt r k .unbootable ≡ true → b ≡ false → o ≡ SetActive k) → Made o r done k (record { used = slotAt r k .used; unbootable = b; successful = false; corrupted = false; tries = 3 })
+    renewed-made o b e bootable = record {
       used-kept = refl;
-      still-valid = activated-valid (slotAt r k);
-      unbootable-kept = λ p q. refl;
+      still-valid = renewed-valid (slotAt r k .used) b;
+      unbootable-kept = bootable;
       successful-set = λ p q. clash q refl;
-      successful-kept = λ p q. simp (eq-eqb k k refl);
+      successful-kept = λ p q. simp e;
       corrupted-set = λ p q. clash q refl;
-      corrupted-kept = λ p q. eq-eqb k k refl;
-      renewed = λ e. (refl, refl);
-      tries-now = simp (eq-eqb k k refl);
+      corrupted-kept = λ p q. e;
+      renewed = λ _. (refl, refl);
+      tries-now = simp e;
     }
 
+    activated-made : Made (SetActive k) r done k (activated (slotAt r k))
+    activated-made = renewed-made (SetActive k) false (eq-eqb k k refl) (λ p q. refl)
+
     modified-made : Made (Modified k) r done k (modified (slotAt r k))
-    modified-made = record {
-      used-kept = refl;
-      still-valid = modified-valid (slotAt r k);
-      unbootable-kept = λ p q. clash p q;
-      successful-set = λ p q. clash q refl;
-      successful-kept = λ p q. simp (eq-eqb k k refl);
-      corrupted-set = λ p q. clash q refl;
-      corrupted-kept = λ p q. eq-eqb k k refl;
-      renewed = λ e. (refl, refl);
-      tries-now = simp (eq-eqb k k refl);
-    }
+    modified-made = renewed-made (Modified k) (slotAt r k .unbootable) (eq-eqb k k refl) (λ p q. clash p q)
 
     damaged-made : Made (Corrupted k) r done k (damaged (slotAt r k))
     damaged-made = record {
@@ -191,6 +189,7 @@ module _ (r : Record) (v : valid r ≡ true) where
     place-used = u;
     current-used = w;
     started = λ j. starts-none (accepted done) j refl;
+    who-starts = λ j e. clash e refl;
     no-try = λ j h. refl;
   }
 

@@ -40,7 +40,7 @@ firstOther r = firstFrom r 4 0
 abbrev pub takeOver : Record → ℕ → Change
 takeOver m k = cond (ltb k 4) (change (starts k) (withCurrent m k)) (change recovery m)
 
--- the current slot starts if it may; "Otherwise it is marked unbootable", a corrupted one too, and the first other slot takes over
+-- the current slot starts if it may; "Otherwise it is marked unbootable", and no longer successful, and the first other slot takes over
 abbrev pub startEffect : Record → Change
 startEffect r =
     cond (mayStart (currentSlot r))

@@ -12,7 +12,7 @@ use Rattle.slot_rules.specs.declared.Op.the-variants.{Start, SetActive, 
 use Rattle.slot_rules.specs.OneSlot.{mayStart}
 use Rattle.slot_rules.specs.Records.{slotAt, currentSlot, inUse, valid}
 use Rattle.slot_rules.specs.Answers.{Deed, starts, recovery, done}
-use Rattle.slot_rules.specs.Operations.{freshOf, startOf, setActiveOf, modifiedOf, corruptedOf}
+use Rattle.slot_rules.specs.Operations.{freshOf, startOf, setActiveOf, modifiedOf, corruptedOf, confirmOf}
 use Rattle.slot_rules.specs.Applied.{apply}
 
 -- the record after an operation
@@ -93,6 +93,8 @@ pub record Lawful (o : Op) (r : Record) : Type 0 where
   pub corrupted-stays : (i : ℕ) → slotAt r i .corrupted ≡ true → slotAt (after o r) i .corrupted ≡ false → renews o (apply o r .answer) i ≡ true
   -- set active and partition modified leave the slot neither successful nor corrupted
   pub renewal-clears : (i : ℕ) → renews o (apply o r .answer) i ≡ true → (slotAt (after o r) i .successful ≡ false) × (slotAt (after o r) i .corrupted ≡ false)
+  -- only Start starts a slot
+  pub start-alone : (i : ℕ) → startsSlot (apply o r .answer) i ≡ true → o ≡ Start
   -- "A started slot that is not successful loses one try"; set active and modified give 3; nothing else changes tries
   pub tries-go : (i : ℕ) → slotAt (after o r) i .tries ≡ triesAfter o (apply o r .answer) i (slotAt r i)
 
@@ -103,6 +105,14 @@ pub record Started (r : Record) (k : ℕ) : Type 0 where
   pub intact : slotAt r k .corrupted ≡ false
   pub could-start : mayStart (slotAt r k) ≡ true
   pub is-current : startOf r .after .current ≡ k
+
+-- what Corrupted does with a slot k in use: it sets the flag, and changes no other flag, nor which slot is current
+pub record Damages (r : Record) (k : ℕ) : Type 0 where
+  pub taken : corruptedOf r k .answer ≡ accepted done
+  pub flag-set : slotAt (corruptedOf r k .after) k .corrupted ≡ true
+  pub same-unbootable : slotAt (corruptedOf r k .after) k .unbootable ≡ slotAt r k .unbootable
+  pub same-successful : slotAt (corruptedOf r k .after) k .successful ≡ slotAt r k .successful
+  pub same-current : corruptedOf r k .after .current ≡ r .current
 
 -- no refusal has the number 0, which stands for none
 pub record RefusalNumbers : Type 0 where
@@ -116,14 +126,18 @@ pub record PastD : Type 0 where
   pub corrupted : (r : Record) (k : ℕ) → 4 ≤ k → corruptedOf r k ≡ corruptedOf r 4
   pub fresh : (n : ℕ) → 4 < n → freshOf n ≡ freshOf 5
 
--- every operation is lawful; what Start starts is in use and was neither unbootable nor corrupted; a corrupted current slot gives way; a fresh record is valid, and its flags are clear
+-- every operation is lawful; what Start starts is in use and was neither unbootable nor corrupted; a corrupted slot gives way and is not confirmed; a fresh record for 1 to 4 slots is valid, and the flags of every fresh record are clear
 pub record Promises : Type 0 where
   pub lawful : (o : Op) (r : Record) → Lawful o r
   pub started : (r : Record) (k : ℕ) → startOf r .answer ≡ accepted (starts k) → Started r k
   -- "if current, Start marks it unbootable and clears its successful flag", also where the answer is Recovery
   pub gives-way : (r : Record) → valid r ≡ true → currentSlot r .corrupted ≡ true → (slotAt (startOf r .after) (r .current) .unbootable ≡ true) × (slotAt (startOf r .after) (r .current) .successful ≡ false)
+  -- "A new operation sets the flag on any slot in use"
+  pub damages : (r : Record) (k : ℕ) → valid r ≡ true → inUse r k ≡ true → Damages r k
+  -- "Confirming a corrupted slot gives 33"
+  pub not-confirmed : (r : Record) → valid r ≡ true → currentSlot r .corrupted ≡ true → confirmOf r .answer ≡ refused 33 0
   pub fresh-valid : (n : ℕ) → 1 ≤ n → n ≤ 4 → (freshOf n .answer ≡ accepted done) × (valid (freshOf n .after) ≡ true)
-  -- "A fresh record has it clear": in all four places, and beside the refusal too
-  pub fresh-clear : (n i : ℕ) → slotAt (freshOf n .after) i .corrupted ≡ false
+  -- "in all four places flags clear", corrupted among them, and so beside the refusal
+  pub fresh-clear : (n i : ℕ) → (slotAt (freshOf n .after) i .unbootable ≡ false) × (slotAt (freshOf n .after) i .successful ≡ false) × (slotAt (freshOf n .after) i .corrupted ≡ false)
   pub refusal-numbers : RefusalNumbers
   pub past-d : PastD

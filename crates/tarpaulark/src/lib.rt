@@ -1,6 +1,7 @@
 // What other languages call. Numbers and bytes go in; the answer is 0 or the number of the refusal,
 // with the rest of it in a lent array of fixed length. include/tarpaulark.h says the same for C.
 
+use slot_bytes::RECORD;
 use slot_on_bytes::Reply;
 use slot_rules::Op;
 use sparse_rules::Cursor;
@@ -189,7 +190,7 @@ pub extern "C" fn tarpaulark_locate(image: &[u8], out: &mut [u64; 19]) -> u32
 }
 
 // Hands a reply over: its bytes and its array to what is lent, its number to the caller.
-fn hand_over(made: Reply, bytes: &mut [u8; 21], out: &mut [u64; 2]) -> u32
+fn hand_over(made: Reply, bytes: &mut [u8; RECORD], out: &mut [u64; 2]) -> u32
     ensures { λ r. ⌜ (r ≡ made .number) × (now (out .exit) ≡ made .answer) × (now (bytes .exit) ≡ made .bytes) ⌝ }
 {
     let after = made.bytes;
@@ -203,7 +204,7 @@ fn hand_over(made: Reply, bytes: &mut [u8; 21], out: &mut [u64; 2]) -> u32
 #[no_mangle]
 pub extern "C" fn tarpaulark_slots_fresh(
     slots: u32,
-    bytes: &mut [u8; 21],
+    bytes: &mut [u8; RECORD],
     out: &mut [u64; 2],
 ) -> u32
     ensures { λ r. ⌜ (r ≡ freshBytes slots (now (bytes .entry)) .number)
@@ -216,7 +217,7 @@ pub extern "C" fn tarpaulark_slots_fresh(
 
 // Start.
 #[no_mangle]
-pub extern "C" fn tarpaulark_slots_start(bytes: &mut [u8; 21], out: &mut [u64; 2]) -> u32
+pub extern "C" fn tarpaulark_slots_start(bytes: &mut [u8; RECORD], out: &mut [u64; 2]) -> u32
     ensures { λ r. ⌜ (r ≡ onBytes Op.Start (now (bytes .entry)) .number)
         × (now (out .exit) ≡ onBytes Op.Start (now (bytes .entry)) .answer)
         × (now (bytes .exit) ≡ onBytes Op.Start (now (bytes .entry)) .bytes) ⌝ }
@@ -228,7 +229,7 @@ pub extern "C" fn tarpaulark_slots_start(bytes: &mut [u8; 21], out: &mut [u64; 2
 // Set active.
 #[no_mangle]
 pub extern "C" fn tarpaulark_slots_set_active(
-    bytes: &mut [u8; 21],
+    bytes: &mut [u8; RECORD],
     slot: u32,
     out: &mut [u64; 2],
 ) -> u32
@@ -243,7 +244,7 @@ pub extern "C" fn tarpaulark_slots_set_active(
 // Partition modified.
 #[no_mangle]
 pub extern "C" fn tarpaulark_slots_modified(
-    bytes: &mut [u8; 21],
+    bytes: &mut [u8; RECORD],
     slot: u32,
     out: &mut [u64; 2],
 ) -> u32
@@ -255,10 +256,10 @@ pub extern "C" fn tarpaulark_slots_modified(
     hand_over(made, bytes, out)
 }
 
-// Corrupted.
+// Corrupted: the slot's system was found damaged.
 #[no_mangle]
 pub extern "C" fn tarpaulark_slots_corrupted(
-    bytes: &mut [u8; 21],
+    bytes: &mut [u8; RECORD],
     slot: u32,
     out: &mut [u64; 2],
 ) -> u32
@@ -272,7 +273,7 @@ pub extern "C" fn tarpaulark_slots_corrupted(
 
 // Confirm. The system calls this, never the loader.
 #[no_mangle]
-pub extern "C" fn tarpaulark_slots_confirm(bytes: &mut [u8; 21], out: &mut [u64; 2]) -> u32
+pub extern "C" fn tarpaulark_slots_confirm(bytes: &mut [u8; RECORD], out: &mut [u64; 2]) -> u32
     ensures { λ r. ⌜ (r ≡ onBytes Op.Confirm (now (bytes .entry)) .number)
         × (now (out .exit) ≡ onBytes Op.Confirm (now (bytes .entry)) .answer)
         × (now (bytes .exit) ≡ onBytes Op.Confirm (now (bytes .entry)) .bytes) ⌝ }
@@ -283,7 +284,7 @@ pub extern "C" fn tarpaulark_slots_confirm(bytes: &mut [u8; 21], out: &mut [u64;
 
 // Whether bytes are a valid slot record: 0, or 31.
 #[no_mangle]
-pub extern "C" fn tarpaulark_slots_valid(bytes: &[u8; 21]) -> u32
+pub extern "C" fn tarpaulark_slots_valid(bytes: &[u8; RECORD]) -> u32
     ensures { λ r. ⌜ r ≡ bytesRefusal (now (bytes .entry)) ⌝ }
 {
     slot_on_bytes::bytes_refusal(*bytes)

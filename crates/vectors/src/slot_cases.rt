@@ -2,14 +2,18 @@
 use crate::support::part;
 use crate::support::value;
 
-// The bytes of a record, and of a case: operation, argument, record.
+// The bytes of a record.
 const RECORD: usize = 21;
 
+// The bytes of a case: operation, argument, record.
 const CASE: usize = 23;
 
+// How many values an operation has.
+const VALUES: usize = 24;
+
 // The values of an operation, a byte each: number, kind, slot, and the record after.
-fn gathered(number: u32, kind: &[u64; 2], record: &[u8; 21]) -> [u8; 24] {
-    let mut all = [0u8; 24];
+fn gathered(number: u32, kind: &[u64; 2], record: &[u8; RECORD]) -> [u8; VALUES] {
+    let mut all = [0u8; VALUES];
     fields_write::copy(&mut all, 3, record);
     all[0] = (number % 256) as u8;
     all[1] = (kind[0] % 256) as u8;
@@ -17,10 +21,10 @@ fn gathered(number: u32, kind: &[u64; 2], record: &[u8; 21]) -> [u8; 24] {
     all
 }
 
-// What an operation on the record at the start of rest answers and leaves.
-fn outcome(operation: u32, argument: u32, rest: &[u8]) -> [u8; 24] {
-    let mut record = [0u8; 21];
-    fields_write::copy(&mut record, 0, part(rest, 0, RECORD));
+// What an operation on the record that bytes hold answers and leaves.
+fn outcome(operation: u32, argument: u32, bytes: &[u8]) -> [u8; VALUES] {
+    let mut record = [0u8; RECORD];
+    fields_write::copy(&mut record, 0, bytes);
     let mut kind = [0u64; 2];
     let number = match operation {
         0 => tarpaulark::tarpaulark_slots_fresh(argument, &mut record, &mut kind),
@@ -37,7 +41,7 @@ fn outcome(operation: u32, argument: u32, rest: &[u8]) -> [u8; 24] {
 pub(crate) fn case(rest: &[u8]) -> usize {
     let head = fields_read::read16(rest, 0) as u32;
     let all = outcome(head % 256, head / 256, part(rest, 2, RECORD));
-    for i in 0usize..24 {
+    for i in 0usize..VALUES {
         value(all[i] as u64);
     }
     CASE

@@ -97,11 +97,11 @@ layout version kernel ramdisk second recovery dtb signature =
       signature = signature;
     }
 
--- a slot in use: unbootable, successful, tries
+-- a slot in use, not corrupted: unbootable, successful, tries
 abbrev pub slot : Bool → Bool → ℕ → Slot
 slot unbootable successful tries = record { used = true; unbootable = unbootable; successful = successful; corrupted = false; tries = tries }
 
--- one whose system is damaged
+-- a corrupted slot in use: unbootable, successful, tries
 abbrev pub corruptedSlot : Bool → Bool → ℕ → Slot
 corruptedSlot unbootable successful tries = record { used = true; unbootable = unbootable; successful = successful; corrupted = true; tries = tries }
 

@@ -7,7 +7,7 @@ is-sound-requires : tie.Need-is-sound-requires
 is-sound-requires c κs = search needs
 
 returns : tie.Need-returns
-returns c = cc
+returns c = rw (c .is-sound .ensures)
 
 pub can-take-over-spec : {M : Type 1} → statement M
 can-take-over-spec = tie.close (tie.spec is-sound-requires returns)
