@@ -44,8 +44,9 @@ static const struct command {
      "works on a slot record of 21 bytes: fresh makes one for 1 to 4 slots, start picks\n"
      "          the slot to start and takes its try, confirm marks the current slot\n"
      "          successful, corrupted marks a slot whose system is damaged, which then does not\n"
-     "          start, set-active and modified clear that mark, show prints the record; SLOT is\n"
-     "          a letter from a on"},
+     "          start; set-active and modified clear that, but a slot that start has given up\n"
+     "          is unbootable until set-active; show prints the record; SLOT is a letter from a\n"
+     "          on"},
 };
 enum { COMMANDS = sizeof commands / sizeof commands[0] };
 

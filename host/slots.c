@@ -133,7 +133,7 @@ static enum status change(const char *path, const struct operation *operation, u
     return keep_record(&place, number, record, answer);
 }
 
-/* Only a record or an empty file is replaced; one of the old length is neither. */
+/* Only an empty file, or one as long as a record, is replaced; one of the old length is neither. */
 static void expect_replaceable(const struct place *place)
 {
     if (place->held < 0 || place->old.st_size == 0 || place->old.st_size == TARPAULARK_RECORD)
@@ -180,5 +180,6 @@ enum status slots(const struct request *request)
         return change(path, operation, 0);
     if (operation != NULL && operation->run_on != NULL && operand != NULL)
         return change(path, operation, as_slot(operand));
-    misused(NULL, "slots takes RECORD and one of its operations");
+    misused(NULL, "slots takes RECORD and an operation: fresh with a COUNT, set-active, modified or corrupted with"
+                  " a SLOT, start, confirm or show with nothing");
 }

@@ -23,7 +23,9 @@
  *
  * From 0.3.0 to 0.4.0 the answers of judge, store and of finishing a pass grew from
  * 3 entries to 4, and a pass from 104 bytes to 112. From 0.4.0 to 0.5.0 a slot
- * record grew from 17 bytes to 21 (see The slot record, below).
+ * record grew from 17 bytes to 21, and what stands after slot a's first three bytes
+ * moved: use the names below (and see The slot record). Code compiled with an older
+ * header lends too little: compile it anew.
  *
  * Where it runs
  *
@@ -446,14 +448,16 @@ uint32_t tarpaulark_locate(
  * flag than 0 or 1 are no record. Both give 31, and the bytes stay as they were.
  *
  * A corrupted slot is one whose system is damaged: the kernel's block checker finds
- * that, and the system then calls tarpaulark_slots_corrupted. Such a slot may not
- * start, successful or not. The flag may stand beside unbootable or successful, and
- * only set active and partition modified clear it.
+ * that, and whoever learns of it calls tarpaulark_slots_corrupted. Such a slot may
+ * not start, successful or not. The flag may stand beside unbootable or successful,
+ * and only set active and partition modified clear it. Start leaves such a slot
+ * unbootable where it is current, which only set active clears.
  *
  * Up to 0.4.0 the record had 17 bytes, four for each slot, without corrupted. Only
  * the length tells the two apart: the bytes of an old one, and four more, may read
- * as a valid new one. To make a new one of it, take for each slot its three flags,
- * 0 for corrupted and its tries; then the current slot.
+ * as a valid new one. Where no length is kept, make the new one before the first
+ * call of this version: for each slot its first three bytes, 0 for corrupted and its
+ * tries; then the current slot.
  *
  * Each operation reads the record and, unless it is refused, writes the new one
  * in its place. A number of slots or a slot is taken whole, as 32 bits: one that
@@ -503,7 +507,8 @@ uint32_t tarpaulark_slots_modified(
 
 /*
  * Corrupted. Sets the slot's flag, whether it is set already or not, and changes
- * nothing else: what follows is for the next Start. Refusals: 31, 32.
+ * nothing else: the next Start goes by it, and Confirm refuses the slot from now on.
+ * Refusals: 31, 32.
  */
 uint32_t tarpaulark_slots_corrupted(
     uint8_t record[TARPAULARK_RECORD], uint32_t slot, uint64_t answer[TARPAULARK_SLOTS_ANSWER]);

@@ -1110,7 +1110,7 @@ OPERATIONS = ("show", "start", "confirm", "set-active a", "modified b", "corrupt
 
 
 def expect_no_record(tool: Tool, data: bytes, advice: str, misuse: str) -> None:
-    """Every operation refuses a file with a piece of advice, and no record is made in its place: it stays."""
+    """Every operation refuses a file, with the advice that is named, or none; no record is made in its place."""
     save("tried", data)
     before = os.stat("tried")
     for words in OPERATIONS:

@@ -21,7 +21,7 @@ SUM_ARGUMENTS = range(5)
 SUM_RANDOM = 8100
 
 FLAGS = tuple(itertools.product((False, True), repeat=3))
-SOUND_FLAGS = tuple(flags for flags in FLAGS if flags[:2] != (True, True))
+VALID_FLAGS = tuple(flags for flags in FLAGS if flags[:2] != (True, True))
 
 UNUSED = Slot(False, False, False, False, 0)
 NEW = Slot(True, False, False, False, 3)
@@ -204,7 +204,7 @@ def random_slot(rng: random.Random) -> Slot:
         return Slot(False, *pick(rng, FLAGS), below(rng, 256))
     if below(rng, 24) == 0:
         return Slot(True, *pick(rng, FLAGS), pick(rng, (0, 3, 8, 9, 255)))
-    return Slot(True, *pick(rng, SOUND_FLAGS), pick(rng, (0, 0, 1, 2, 3, 5, 7)))
+    return Slot(True, *pick(rng, VALID_FLAGS), pick(rng, (0, 0, 1, 2, 3, 5, 7)))
 
 
 def random_record(rng: random.Random) -> Record:

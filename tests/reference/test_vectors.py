@@ -378,7 +378,7 @@ class TestVectors(unittest.TestCase):
     def test_corrupted_slots_passed_over(self) -> None:
         """At each place, and before a candidate at each later place, d being the last."""
         found = set()
-        for case, (number, kind, slot, *_) in self.slot_answers():
+        for case, (_, _, slot, *_) in self.slot_answers():
             if case.operation == cases_slots.START and slot != case.record.current:
                 passed = [i for i in range(slot) if case.record.slots[i].corrupted]
                 found |= {(i, slot) for i in passed if i != case.record.current}

@@ -17,7 +17,7 @@ use Rattle.slot_rules.specs.Records.{slotAt, currentSlot, inUse, slotsVa
 use Rattle.slot_rules.specs.Answers.{Deed, starts, done, Change, change}
 use Rattle.slot_rules.specs.Operations.{freshTests, freshOf, firstOther, startOf, corruptedOf, confirmOf}
 use Rattle.slot_rules.specs.Applied.{apply}
-use Rattle.slot_rules.specs.Promises.{about, startsSlot, isDone, renews, confirms, givesWay, triesAfter, Lawful, Started, Damages, RefusalNumbers, PastD, Promises}
+use Rattle.slot_rules.specs.Promises.{about, startsSlot, isDone, renews, confirms, marks, givesWay, triesAfter, Lawful, Started, Damages, RefusalNumbers, PastD, Promises}
 use Rattle.rules.proofs.Answer.{has-number}
 use Rattle.slot_rules.proofs.Tests.{and-right, and-false}
 use Rattle.slot_rules.proofs.OneSlot.{clash, by-cond, corrupted-unsound, corrupted-stuck, starts-bootable, starts-intact}
@@ -114,6 +114,7 @@ lawful o r = record {
   unused-kept = unused o r (apply o r) (step o r);
   others-kept = others o r (apply o r) (step o r);
   use-kept = uses o r (apply o r) (step o r);
+  unbootable-waits = sets o r (λ s. s .unbootable) (λ a i. marks o r i ≡ true) (λ d i s made. made .unbootable-set) (apply o r) (step o r);
   unbootable-stays = clears o r (λ s. s .unbootable) (λ a i. o ≡ SetActive i) (λ d i s made. made .unbootable-kept) (apply o r) (step o r);
   successful-waits = sets o r (λ s. s .successful) (λ a i. confirms o a r i ≡ true) (λ d i s made. made .successful-set) (apply o r) (step o r);
   successful-stays = clears o r (λ s. s .successful) (λ a i. (renews o a i || givesWay o r i) ≡ true) (λ d i s made. made .successful-kept) (apply o r) (step o r);

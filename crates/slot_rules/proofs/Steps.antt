@@ -16,7 +16,7 @@ use Rattle.slot_rules.specs.Records.{slotAt, currentSlot, inUse, slotsVa
 use Rattle.slot_rules.specs.Answers.{Deed, starts, recovery, done, Change, beside, change}
 use Rattle.slot_rules.specs.Operations.{takesOver, firstFrom, firstOther, startOf, onSlot, confirmOf}
 use Rattle.slot_rules.specs.Applied.{apply}
-use Rattle.slot_rules.specs.Promises.{about, startsSlot, renews, confirms, givesWay, triesAfter}
+use Rattle.slot_rules.specs.Promises.{about, startsSlot, renews, confirms, marks, givesWay, triesAfter}
 use Rattle.slot_rules.proofs.Tests.{and-left, and-right}
 use Rattle.slot_rules.proofs.Laws.{in-use-place, valid-in-use, start-own, start-other, start-invalid, on-slot-invalid, on-slot-unused, on-slot-done, confirm-invalid, confirm-unsound, confirm-done}
 use Rattle.slot_rules.proofs.Answers.{starts-one, starts-none}
@@ -27,6 +27,7 @@ use Rattle.slot_rules.proofs.Places.{each-valid, in-use-used}
 pub record Made (o : Op) (r : Record) (d : Deed) (i : ℕ) (s : Slot) : Type 0 where
   pub used-kept : s .used ≡ slotAt r i .used
   pub still-valid : slotValid s ≡ true
+  pub unbootable-set : slotAt r i .unbootable ≡ false → s .unbootable ≡ true → marks o r i ≡ true
   pub unbootable-kept : slotAt r i .unbootable ≡ true → s .unbootable ≡ false → o ≡ SetActive i
   pub successful-set : slotAt r i .successful ≡ false → s .successful ≡ true → confirms o (accepted d) r i ≡ true
   pub successful-kept : slotAt r i .successful ≡ true → s .successful ≡ false → (renews o (accepted d) i || givesWay o r i) ≡ true
@@ -67,6 +68,7 @@ module _ (r : Record) (v : valid r ≡ true) where
   spent-made = record {
     used-kept = same (λ t. t .used) refl;
     still-valid = spent-valid (currentSlot r) (each (r .current) used);
+    unbootable-set = λ p q. clash q (same (λ t. t .unbootable) refl ∙ p);
     unbootable-kept = λ p q. clash (same (λ t. t .unbootable) refl ∙ p) q;
     successful-set = λ p q. clash q (same (λ t. t .successful) refl ∙ p);
     successful-kept = λ p q. clash (same (λ t. t .successful) refl ∙ p) q;
@@ -94,6 +96,7 @@ module _ (r : Record) (v : valid r ≡ true) where
     marked-made d e = record {
       used-kept = refl;
       still-valid = marked-valid (currentSlot r) (each (r .current) used);
+      unbootable-set = λ p q. simp (eq-eqb (r .current) (r .current) refl, m);
       unbootable-kept = λ p q. clash refl q;
       successful-set = λ p q. clash q refl;
       successful-kept = λ p q. simp (eq-eqb (r .current) (r .current) refl, stuck-corrupted (currentSlot r) (each (r .current) used) (in-use-used r (r .current) used) m p);
@@ -136,11 +139,12 @@ module _ (r : Record) (v : valid r ≡ true) where
 
   module _ (k : ℕ) (u : inUse r k ≡ true) where
     -- what set active and partition modified share: they differ in the flag b, unbootable
-    renewed-made : (o : Op) (b : Bool) → renews o (accepted done) k ≡ true → (slotAt r k .unbootable ≡ true → b ≡ false → o ≡ SetActive k) → Made o r done k (record { used = slotAt r k .used; unbootable = b; successful = false; corrupted = false; tries = 3 })
-    renewed-made o b e bootable = record {
+    renewed-made : (o : Op) (b : Bool) → renews o (accepted done) k ≡ true → (slotAt r k .unbootable ≡ false → b ≡ false) → (slotAt r k .unbootable ≡ true → b ≡ false → o ≡ SetActive k) → Made o r done k (record { used = slotAt r k .used; unbootable = b; successful = false; corrupted = false; tries = 3 })
+    renewed-made o b e stays cleared = record {
       used-kept = refl;
       still-valid = renewed-valid (slotAt r k .used) b;
-      unbootable-kept = bootable;
+      unbootable-set = λ p q. clash q (stays p);
+      unbootable-kept = cleared;
       successful-set = λ p q. clash q refl;
       successful-kept = λ p q. simp e;
       corrupted-set = λ p q. clash q refl;
@@ -150,15 +154,16 @@ module _ (r : Record) (v : valid r ≡ true) where
     }
 
     activated-made : Made (SetActive k) r done k (activated (slotAt r k))
-    activated-made = renewed-made (SetActive k) false (eq-eqb k k refl) (λ p q. refl)
+    activated-made = renewed-made (SetActive k) false (eq-eqb k k refl) (λ p. refl) (λ p q. refl)
 
     modified-made : Made (Modified k) r done k (modified (slotAt r k))
-    modified-made = renewed-made (Modified k) (slotAt r k .unbootable) (eq-eqb k k refl) (λ p q. clash p q)
+    modified-made = renewed-made (Modified k) (slotAt r k .unbootable) (eq-eqb k k refl) (λ p. p) (λ p q. clash p q)
 
     damaged-made : Made (Corrupted k) r done k (damaged (slotAt r k))
     damaged-made = record {
       used-kept = refl;
       still-valid = damaged-valid (slotAt r k) (each k u);
+      unbootable-set = λ p q. clash q p;
       unbootable-kept = λ p q. clash p q;
       successful-set = λ p q. clash q p;
       successful-kept = λ p q. clash p q;
@@ -172,6 +177,7 @@ module _ (r : Record) (v : valid r ≡ true) where
   confirmed-made m = record {
     used-kept = refl;
     still-valid = confirmed-valid (currentSlot r) (each (r .current) used) m;
+    unbootable-set = λ p q. clash q p;
     unbootable-kept = λ p q. clash p q;
     successful-set = λ p q. eq-eqb (r .current) (r .current) refl;
     successful-kept = λ p q. clash refl q;

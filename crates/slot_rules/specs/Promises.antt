@@ -57,6 +57,14 @@ confirms (Modified k) a r i = false
 confirms (Corrupted k) a r i = false
 confirms Confirm a r i = isDone a && eqb i (r .current)
 
+-- Start where slot i is current and may not start
+abbrev pub marks : Op → Record → ℕ → Bool
+marks Start r i = eqb i (r .current) && not (mayStart (slotAt r i))
+marks (SetActive k) r i = false
+marks (Modified k) r i = false
+marks (Corrupted k) r i = false
+marks Confirm r i = false
+
 -- Start where slot i is current and corrupted, which gives way
 abbrev pub givesWay : Op → Record → ℕ → Bool
 givesWay Start r i = eqb i (r .current) && slotAt r i .corrupted
@@ -81,6 +89,8 @@ pub record Lawful (o : Op) (r : Record) : Type 0 where
   pub others-kept : (i : ℕ) → (i ≡ about o r → ⊥) → slotAt (after o r) i ≡ slotAt r i
   -- no operation takes a slot into use, or out of it
   pub use-kept : (i : ℕ) → slotAt (after o r) i .used ≡ slotAt r i .used
+  -- only Start sets unbootable, and only where the current slot may not start
+  pub unbootable-waits : (i : ℕ) → slotAt r i .unbootable ≡ false → slotAt (after o r) i .unbootable ≡ true → marks o r i ≡ true
   -- "only set active may" clear unbootable
   pub unbootable-stays : (i : ℕ) → slotAt r i .unbootable ≡ true → slotAt (after o r) i .unbootable ≡ false → o ≡ SetActive i
   -- only Confirm sets successful, only in the current slot, and only where it is not refused
