@@ -20,8 +20,8 @@ root=$folder/dest/opt/t
 grep -q "tarpaulark $version" "$root/share/man/man1/tarpaulark.1" || die "the man page has another version"
 ! grep -rq '@[A-Z]*@' "$root/lib/pkgconfig" "$root/share/man" || die "a place is left to be filled in"
 
-# An image that is too short is refused with 1, which the header names. Of a fresh record slot b is set active,
-# confirmed and corrupted: its bytes, those of a and the current slot stand where the header says.
+# An image that is too short is refused with 1, which the header names. Of a fresh record slot b is set active and
+# confirmed, and a corrupted: their bytes and the current slot stand where the header says.
 cat >"$folder/use.c" <<'END_C'
 #include <tarpaulark.h>
 
@@ -38,10 +38,10 @@ static int use_slots(void)
     uint64_t answer[TARPAULARK_SLOTS_ANSWER];
 
     if (tarpaulark_slots_fresh(2, record, answer) != 0 || tarpaulark_slots_set_active(record, 1, answer) != 0
-        || tarpaulark_slots_confirm(record, answer) != 0 || tarpaulark_slots_corrupted(record, 1, answer) != 0)
+        || tarpaulark_slots_confirm(record, answer) != 0 || tarpaulark_slots_corrupted(record, 0, answer) != 0)
         return 1;
     return answer[TARPAULARK_SLOTS_KIND] != TARPAULARK_DONE || record[TARPAULARK_RECORD_CURRENT] != 1
-        || !has(record, 0, 0) || !has(record + TARPAULARK_RECORD_SLOT, 1, 1);
+        || !has(record, 0, 1) || !has(record + TARPAULARK_RECORD_SLOT, 1, 0);
 }
 
 int use(void)
