@@ -17,7 +17,7 @@ use Rattle.slot_rules.specs.Records.{slotAt, currentSlot, inUse, slotsVa
 use Rattle.slot_rules.specs.Answers.{Deed, starts, done, Change, change}
 use Rattle.slot_rules.specs.Operations.{freshTests, freshOf, firstOther, startOf, corruptedOf, confirmOf}
 use Rattle.slot_rules.specs.Applied.{apply}
-use Rattle.slot_rules.specs.Promises.{about, startsSlot, isDone, renews, confirms, marks, givesWay, triesAfter, Lawful, Started, Damages, RefusalNumbers, PastD, Promises}
+use Rattle.slot_rules.specs.Promises.{about, startsSlot, isDone, renews, confirms, marks, givesWay, triesAfter, currentAfter, Lawful, Started, Damages, RefusalNumbers, PastD, Promises}
 use Rattle.rules.proofs.Answer.{has-number}
 use Rattle.slot_rules.proofs.Tests.{and-right, and-false}
 use Rattle.slot_rules.proofs.OneSlot.{clash, by-cond, corrupted-unsound, corrupted-stuck, starts-bootable, starts-intact}
@@ -33,6 +33,14 @@ not-renewed (SetActive k) n p i = refl
 not-renewed (Modified k) n p i = refl
 not-renewed (Corrupted k) n p i = refl
 not-renewed Confirm n p i = refl
+
+-- a refusal makes no slot current
+not-moved : (o : Op) (r : Record) (n p : ℕ) → r .current ≡ currentAfter o (refused n p) r
+not-moved Start r n p = refl
+not-moved (SetActive k) r n p = refl
+not-moved (Modified k) r n p = refl
+not-moved (Corrupted k) r n p = refl
+not-moved Confirm r n p = refl
 
 -- no operation renews a slot that it is not about
 others-not-renewed : (o : Op) (r : Record) (a : Answer Deed) (j : ℕ) → (j ≡ about o r → ⊥) → renews o a j ≡ false
@@ -96,6 +104,10 @@ module _ (o : Op) (r : Record) where
       by-place r i s (known .place-used) (λ (j : ℕ) (t : Slot). renews o (accepted d) j ≡ true → (t .successful ≡ false) × (t .corrupted ≡ false)) (known .made .renewed)
       (λ j h e. clash e (others-not-renewed o r (accepted d) j (λ q. h (q ∙ sym (known .at-place))))) j e
 
+  moves : (c : Change) → Step o r c → c .after .current ≡ currentAfter o (c .answer) r
+  moves _ (refusal n _) = not-moved o r n 0
+  moves _ (entry d i s k known) = known .current-now
+
   starting : (c : Change) → Step o r c → (i : ℕ) → startsSlot (c .answer) i ≡ true → o ≡ Start
   starting _ (refusal _ _) j e = clash e refl
   starting _ (entry d i s k known) j e = known .who-starts j e
@@ -114,6 +126,7 @@ lawful o r = record {
   unused-kept = unused o r (apply o r) (step o r);
   others-kept = others o r (apply o r) (step o r);
   use-kept = uses o r (apply o r) (step o r);
+  current-goes = moves o r (apply o r) (step o r);
   unbootable-waits = sets o r (λ s. s .unbootable) (λ a i. marks o r i ≡ true) (λ d i s made. made .unbootable-set) (apply o r) (step o r);
   unbootable-stays = clears o r (λ s. s .unbootable) (λ a i. o ≡ SetActive i) (λ d i s made. made .unbootable-kept) (apply o r) (step o r);
   successful-waits = sets o r (λ s. s .successful) (λ a i. confirms o a r i ≡ true) (λ d i s made. made .successful-set) (apply o r) (step o r);

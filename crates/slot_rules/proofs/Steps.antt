@@ -16,7 +16,7 @@ use Rattle.slot_rules.specs.Records.{slotAt, currentSlot, inUse, slotsVa
 use Rattle.slot_rules.specs.Answers.{Deed, starts, recovery, done, Change, beside, change}
 use Rattle.slot_rules.specs.Operations.{takesOver, firstFrom, firstOther, startOf, onSlot, confirmOf}
 use Rattle.slot_rules.specs.Applied.{apply}
-use Rattle.slot_rules.specs.Promises.{about, startsSlot, renews, confirms, marks, givesWay, triesAfter}
+use Rattle.slot_rules.specs.Promises.{about, startsSlot, renews, confirms, marks, givesWay, triesAfter, currentAfter}
 use Rattle.slot_rules.proofs.Tests.{and-left, and-right}
 use Rattle.slot_rules.proofs.Laws.{in-use-place, valid-in-use, start-own, start-other, start-invalid, on-slot-invalid, on-slot-unused, on-slot-done, confirm-invalid, confirm-unsound, confirm-done}
 use Rattle.slot_rules.proofs.Answers.{starts-one, starts-none}
@@ -42,6 +42,7 @@ pub record Entry (o : Op) (r : Record) (d : Deed) (i : ℕ) (s : Slot) (k : ℕ)
   pub at-place : i ≡ about o r
   pub place-used : inUse r i ≡ true
   pub current-used : inUse r k ≡ true
+  pub current-now : k ≡ currentAfter o (accepted d) r
   pub started : (j : ℕ) → accepted d ≡ accepted (starts j) → (k ≡ j) × (mayStart (slotAt r k) ≡ true)
   pub who-starts : (j : ℕ) → startsSlot (accepted d) j ≡ true → o ≡ Start
   pub no-try : (j : ℕ) → (j ≡ i → ⊥) → (startsSlot (accepted d) j && not (slotAt r j .successful)) ≡ false
@@ -86,6 +87,7 @@ module _ (r : Record) (v : valid r ≡ true) where
     at-place = refl;
     place-used = used;
     current-used = used;
+    current-now = refl;
     started = λ j e. (starts-one (r .current) j e, m);
     who-starts = λ j e. refl;
     no-try = λ j h. simp (ne-eqb j (r .current) h);
@@ -112,6 +114,7 @@ module _ (r : Record) (v : valid r ≡ true) where
       at-place = refl;
       place-used = used;
       current-used = simp (lt-ltb k 4 h, over-used (slotAt r k) may);
+      current-now = refl;
       started = λ j e. (starts-one k j e, over-starts (slotAt r k) may);
       who-starts = λ j e. refl;
       no-try = λ j _. by-place j (eqb j k) refl;
@@ -132,6 +135,7 @@ module _ (r : Record) (v : valid r ≡ true) where
       at-place = refl;
       place-used = used;
       current-used = used;
+      current-now = refl;
       started = λ j. starts-none (accepted recovery) j refl;
       who-starts = λ j e. refl;
       no-try = λ j h. refl;
@@ -188,12 +192,13 @@ module _ (r : Record) (v : valid r ≡ true) where
   }
 
   -- an operation that is done, of which no slot starts
-  done-entry : (o : Op) (s : Slot) (k : ℕ) → inUse r (about o r) ≡ true → inUse r k ≡ true → Made o r done (about o r) s → Entry o r done (about o r) s k
-  done-entry o s k u w m = record {
+  done-entry : (o : Op) (s : Slot) (k : ℕ) → inUse r (about o r) ≡ true → inUse r k ≡ true → k ≡ currentAfter o (accepted done) r → Made o r done (about o r) s → Entry o r done (about o r) s k
+  done-entry o s k u w c m = record {
     made = m;
     at-place = refl;
     place-used = u;
     current-used = w;
+    current-now = c;
     started = λ j. starts-none (accepted done) j refl;
     who-starts = λ j e. clash e refl;
     no-try = λ j h. refl;
@@ -206,19 +211,19 @@ module _ (r : Record) (v : valid r ≡ true) where
       (by-cond (ltb (firstOther r) 4) (Step Start r) (λ h. entry _ _ _ _ (other-entry m (firstOther r) (ltb-true _ _ h) (found r 4 0 (ltb-true _ _ h)))) (λ _. entry _ _ _ _ (none-entry m)))
 
   -- one argument for every operation on a slot: what it makes of the slot, and that the slot k that it makes current is in use where its own is
-  on-slot-step : (o : Op) (s : Slot) (k : ℕ) → (inUse r (about o r) ≡ true → inUse r k ≡ true) → (inUse r (about o r) ≡ true → Made o r done (about o r) s) → (u : Bool) → inUse r (about o r) ≡ u → Step o r (onSlot r (about o r) s k)
-  on-slot-step o s k w m true u = subst (Step o r) (sym (on-slot-done r v (about o r) s k u)) (entry _ _ _ _ (done-entry o s k u (w u) (m u)))
-  on-slot-step o s k w m false u = subst (Step o r) (sym (on-slot-unused r v (about o r) s k u)) (refusal 32 (omega arith))
+  on-slot-step : (o : Op) (s : Slot) (k : ℕ) → k ≡ currentAfter o (accepted done) r → (inUse r (about o r) ≡ true → inUse r k ≡ true) → (inUse r (about o r) ≡ true → Made o r done (about o r) s) → (u : Bool) → inUse r (about o r) ≡ u → Step o r (onSlot r (about o r) s k)
+  on-slot-step o s k c w m true u = subst (Step o r) (sym (on-slot-done r v (about o r) s k u)) (entry _ _ _ _ (done-entry o s k u (w u) c (m u)))
+  on-slot-step o s k c w m false u = subst (Step o r) (sym (on-slot-unused r v (about o r) s k u)) (refusal 32 (omega arith))
 
   confirm-step : (m : Bool) → mayConfirm (currentSlot r) ≡ m → Step Confirm r (confirmOf r)
-  confirm-step true m = subst (Step Confirm r) (sym (confirm-done r v m)) (entry _ _ _ _ (done-entry Confirm _ _ used used (confirmed-made m)))
+  confirm-step true m = subst (Step Confirm r) (sym (confirm-done r v m)) (entry _ _ _ _ (done-entry Confirm _ _ used used refl (confirmed-made m)))
   confirm-step false m = subst (Step Confirm r) (sym (confirm-unsound r v m)) (refusal 33 (omega arith))
 
   valid-step : (o : Op) → Step o r (apply o r)
   valid-step Start = start-step (mayStart (currentSlot r)) refl
-  valid-step (SetActive k) = on-slot-step (SetActive k) (activated (slotAt r k)) k (λ u. u) (activated-made k) (inUse r k) refl
-  valid-step (Modified k) = on-slot-step (Modified k) (modified (slotAt r k)) (r .current) (λ _. used) (modified-made k) (inUse r k) refl
-  valid-step (Corrupted k) = on-slot-step (Corrupted k) (damaged (slotAt r k)) (r .current) (λ _. used) (damaged-made k) (inUse r k) refl
+  valid-step (SetActive k) = on-slot-step (SetActive k) (activated (slotAt r k)) k refl (λ u. u) (activated-made k) (inUse r k) refl
+  valid-step (Modified k) = on-slot-step (Modified k) (modified (slotAt r k)) (r .current) refl (λ _. used) (modified-made k) (inUse r k) refl
+  valid-step (Corrupted k) = on-slot-step (Corrupted k) (damaged (slotAt r k)) (r .current) refl (λ _. used) (damaged-made k) (inUse r k) refl
   valid-step Confirm = confirm-step (mayConfirm (currentSlot r)) refl
 
 module _ (r : Record) (v : valid r ≡ false) where

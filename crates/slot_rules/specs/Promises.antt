@@ -77,6 +77,21 @@ givesWay Confirm r i = false
 abbrev pub triesAfter : Op → Answer Deed → ℕ → Slot → ℕ
 triesAfter o a i s = cond (renews o a i) 3 (cond (startsSlot a i && not (s .successful)) (s .tries - 1) (s .tries))
 
+-- the slot that an answer starts, or c where it starts none
+abbrev pub startedOr : Answer Deed → ℕ → ℕ
+startedOr (accepted (starts k)) c = k
+startedOr (accepted recovery) c = c
+startedOr (accepted done) c = c
+startedOr (refused n p) c = c
+
+-- the slot that is current after an operation with the answer a: what Start starts, what was set active, and otherwise as before
+abbrev pub currentAfter : Op → Answer Deed → Record → ℕ
+currentAfter Start a r = startedOr a (r .current)
+currentAfter (SetActive k) a r = cond (isDone a) k (r .current)
+currentAfter (Modified k) a r = r .current
+currentAfter (Corrupted k) a r = r .current
+currentAfter Confirm a r = r .current
+
 -- the laws of all operations
 pub record Lawful (o : Op) (r : Record) : Type 0 where
   -- "a refusal stores nothing and changes no slot record"
@@ -89,6 +104,8 @@ pub record Lawful (o : Op) (r : Record) : Type 0 where
   pub others-kept : (i : ℕ) → (i ≡ about o r → ⊥) → slotAt (after o r) i ≡ slotAt r i
   -- no operation takes a slot into use, or out of it
   pub use-kept : (i : ℕ) → slotAt (after o r) i .used ≡ slotAt r i .used
+  -- "The slot becomes current": what Start starts and what is set active; nothing else changes which slot is current
+  pub current-goes : after o r .current ≡ currentAfter o (apply o r .answer) r
   -- only Start sets unbootable, and only where the current slot may not start
   pub unbootable-waits : (i : ℕ) → slotAt r i .unbootable ≡ false → slotAt (after o r) i .unbootable ≡ true → marks o r i ≡ true
   -- "only set active may" clear unbootable
