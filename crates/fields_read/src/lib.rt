@@ -8,7 +8,7 @@ ghost use lib.ListN.{length, getD};
 ghost use Rattle.fields_rules.specs.Number.{numberAt};
 
 // Whether n bytes from `at` on lie within a slice of so many.
-fn within(len: usize, at: usize, n: usize) -> bool
+pub fn within(len: usize, at: usize, n: usize) -> bool
     ensures { λ r. ⌜ r ≡ leb (at + n) len ⌝ }
 {
     if len < n { false } else { at <= len - n }

@@ -8,7 +8,7 @@ use Prim.Native.Nat.{ℕ, zero, suc, _+_, _-_, _*_, _^_, _/_, _%_, _≤_, _<_}
 use native.Mathlib.Nat.{pow-suc, div-add-mod', add-zero, mod-lt, zero-lt-suc, not-suc-le-zero, le-of-suc-le-suc}
 use native.Mathlib.Omega.{arith}
 use lib.ListN.{length, getD, drop, List·getD-append}
-use lib.Seq.{sets, getD-drop, getD-append-add}
+use lib.Seq.{sets, length-sets, getD-drop, getD-append-add}
 use borrow.Author.Tests.{le-leb, lt-leb}
 use lib.Dec.{leb}
 use Rattle.fields_rules.specs.Number.{numberAt, bytes, Bytes, placed}
@@ -112,3 +112,12 @@ placed-room s at [] h = go (leb (at + 0) (length s))
     go true = refl
     go false = refl
 placed-room s at (x ∷ xs) h = placed-whole s at (x ∷ xs) (omega arith)
+
+-- what bytes are stored in stays as long as it was
+pub length-placed : (s : List ℕ) (at : ℕ) (xs : List ℕ) → length (placed s at xs) ≡ length s
+unfolding placed
+length-placed s at xs = go (leb (at + length xs) (length s))
+  where
+    go : (x : Bool) → length (cond x (sets s at xs) s) ≡ length s
+    go true = length-sets s at xs
+    go false = refl

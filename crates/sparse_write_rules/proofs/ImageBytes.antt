@@ -29,11 +29,11 @@ bytes-blocks b (none ∷ xs) f i =
 bytes-blocks b (some ys ∷ xs) f i =
     rw (zeroed-append, zeroed-some) (bytes-append ys (zeroed (blockCells b xs)) (f .0 .1) (bytes-blocks b xs (f .1)) i)
 
--- and so is a part of bytes
-pub bytes-tab : (d : List ℕ) → Bytes d → (at i n : ℕ) → Bytes (tab (rawByte d at) i n)
-bytes-tab d small at i zero j = omega arith
-bytes-tab d small at i (suc n) zero = small (at + i)
-bytes-tab d small at i (suc n) (suc j) = bytes-tab d small at (suc i) n j
+-- and so is a table of bytes
+pub bytes-tab : (f : ℕ → ℕ) → ((i : ℕ) → f i < 256) → (i n : ℕ) → Bytes (tab f i n)
+bytes-tab f small i zero j = omega arith
+bytes-tab f small i (suc n) zero = small i
+bytes-tab f small i (suc n) (suc j) = bytes-tab f small (suc i) n j
 
 bytes-data : (kind : BlockKind) (xs : List ℕ) → Bytes xs → Bytes (chunkData kind xs)
 bytes-data kept xs small i = omega arith
@@ -48,7 +48,7 @@ bytes-chunks b d small at (r ∷ rs) i =
     bytes-append (chunk (r .kind) (r .many) xs) (chunks b d (at + r .many * b) rs)
     (bytes-append (chunkHeader (chunkType (r .kind)) (r .many) (chunkSize (r .kind) (length xs))) (chunkData (r .kind) xs)
     (bytes-packed ((2, chunkType (r .kind)) ∷ (2, 0) ∷ (4, r .many) ∷ (4, chunkSize (r .kind) (length xs)) ∷ []))
-    (bytes-data (r .kind) xs (bytes-tab d small at 0 (r .many * b))))
+    (bytes-data (r .kind) xs (bytes-tab (rawByte d at) (λ i. small (at + i)) 0 (r .many * b))))
     (bytes-chunks b d small (at + r .many * b) rs) i
 
 bytes-header : (b n k c : ℕ) → Bytes (header b n k c)

@@ -2,14 +2,14 @@
 -- Assumes nothing.
 use mathlib.Core.Path.{_≡_, refl, sym, ap, _∙_}
 use mathlib.Core.Bool.{Bool, true, false, cond}
-use mathlib.Core.List.{List, [], _∷_}
+use mathlib.Core.List.{List, [], _∷_, _++_}
 use Prim.Native.Nat.{ℕ, zero, suc, _+_, _-_, _*_, _≤_, _<_}
 use native.Mathlib.Nat.{zero-lt-suc, not-suc-le-zero, suc-mul, add-mul}
 use native.Mathlib.Omega.{arith}
 use lib.Dec.{eqb}
-use lib.ListN.{length, length-append, length-replicate}
+use lib.ListN.{length, replicate, length-append, length-replicate}
 use borrow.Author.Tests.{eq-eqb, eqb-true}
-use Rattle.sparse_write_rules.specs.Runs.{Tells, Run, inFront, runs, spread, Longest, nothing, single, next}
+use Rattle.sparse_write_rules.specs.Runs.{Tells, Run, inFront, runs, closed, spread, Longest, nothing, single, next}
 use Rattle.sparse_write_rules.specs.Kinds.{BlockKind, kept, raw, fill, sameKind}
 use Rattle.sparse_write_rules.specs.Theorems.{Grouped}
 
@@ -102,6 +102,25 @@ module _ {A : Type 0} (same : A → A → Bool) (tells : Tells same) where
       go : (x : Bool) → inFront same k (cond x (of j (suc (r .many)) ∷ rs) (of j 1 ∷ r ∷ rs)) ≡ of k 1 ∷ cond x (of j (suc (r .many)) ∷ rs) (of j 1 ∷ r ∷ rs)
       go true = rw (differ k j d)
       go false = rw (differ k j d)
+
+  grows : (k : A) (n : ℕ) (r : List A) → inFront same k (runs same r) ≡ of k 1 ∷ runs same r → runs same (replicate (suc n) k ++ r) ≡ of k (suc n) ∷ runs same r
+  unfolding runs
+  grows k zero r e = e
+  grows k (suc n) r e = ap (inFront same k) (grows k n r e) ∙ front-same k (suc n) (runs same r)
+
+  -- the last ones
+  pub closed-last : (k : A) (n : ℕ) → runs same (replicate n k ++ []) ≡ closed k n
+  unfolding runs
+  closed-last k zero = refl
+  closed-last k (suc n) = grows k n [] refl
+
+  -- those before some of another kind
+  pub closed-before : (k j : A) (n m : ℕ) (r : List A) → 0 < m → (k ≡ j → ⊥)
+      → runs same (replicate n k ++ (replicate m j ++ r)) ≡ closed k n ++ runs same (replicate m j ++ r)
+  unfolding runs
+  closed-before k j n zero r h d = absurd (not-suc-le-zero h)
+  closed-before k j zero (suc m) r h d = refl
+  closed-before k j (suc n) (suc m) r h d = grows k n (j ∷ replicate m j ++ r) (front-other k j (runs same (replicate m j ++ r)) d)
 
 -- what holds of the runs of a list
 pub grouped : Grouped

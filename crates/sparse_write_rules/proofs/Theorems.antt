@@ -130,7 +130,7 @@ encode-bound b xs w =
 blocks-fit : (d : List ℕ) → Bytes d → (b n at : ℕ) → AllFit b (blocksFrom d b n at)
 unfolding blocksFrom
 blocks-fit d small b zero at = tt
-blocks-fit d small b (suc n) at = ((length-tab (rawByte d at) 0 b, bytes-tab d small at 0 b), blocks-fit d small b n (at + b))
+blocks-fit d small b (suc n) at = ((length-tab (rawByte d at) 0 b, bytes-tab (rawByte d at) (λ i. small (at + i)) 0 b), blocks-fit d small b n (at + b))
 
 blocks-stored : (d : List ℕ) (b n at : ℕ) → All Stores (map (blockKind b) (blocksFrom d b n at))
 unfolding blocksFrom

@@ -3,7 +3,7 @@
 use mathlib.Core.Path.{_≡_}
 use mathlib.Core.Bool.{Bool, true, cond}
 use mathlib.Core.List.{List, [], _∷_, _++_}
-use Prim.Native.Nat.{ℕ, suc, _<_}
+use Prim.Native.Nat.{ℕ, zero, suc, _<_}
 use lib.ListN.{replicate}
 
 -- a test that holds of two elements exactly where they are equal
@@ -26,6 +26,11 @@ inFront same k (r ∷ rs) =
 unfoldable pub runs : {A : Type 0} → (A → A → Bool) → List A → List (Run A)
 runs same [] = []
 runs same (k ∷ ks) = inFront same k (runs same ks)
+
+-- the runs of so many equal elements alone: one, or none where there are none
+abbrev pub closed : {A : Type 0} → A → ℕ → List (Run A)
+closed k zero = []
+closed k (suc n) = record { kind = k; many = suc n } ∷ []
 
 -- the elements that runs stand for
 unfoldable pub spread : {A : Type 0} → List (Run A) → List A

@@ -6,6 +6,7 @@ use Rattle.sparse_rules.proofs.Theorems as images
 use Rattle.sparse_store_rules.proofs.Storing as storing
 use Rattle.sparse_stream_rules.proofs.Theorems as passes
 use Rattle.sparse_write_rules.proofs.Theorems as writer
+use Rattle.sparse_diff_rules.proofs.Theorems as diff
 use Rattle.tarpaulark.specs.Promises.{Promises}
 
 pub promises : Promises
@@ -15,6 +16,7 @@ promises =
       storing = storing.storing;
       passes = passes.refusal-numbers;
       writer = writer.refusal-numbers;
+      comparing = diff.refusal-numbers;
       boot = boot.refusal-numbers;
       slots = slots.refusal-numbers;
     }

@@ -6,6 +6,7 @@ use Rattle.sparse_rules.specs.Theorems as images
 use Rattle.sparse_store_rules.specs.Storing as storing
 use Rattle.sparse_stream_rules.specs.Theorems as passes
 use Rattle.sparse_write_rules.specs.Theorems as writer
+use Rattle.sparse_diff_rules.specs.Theorems as diff
 
 -- no refusal of any part has the number 0, which is returned where nothing is refused
 pub record Promises : Type 0 where
@@ -13,5 +14,6 @@ pub record Promises : Type 0 where
   pub storing : storing.Storing
   pub passes : passes.RefusalNumbers
   pub writer : writer.RefusalNumbers
+  pub comparing : diff.RefusalNumbers
   pub boot : boot.RefusalNumbers
   pub slots : slots.RefusalNumbers

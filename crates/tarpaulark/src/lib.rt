@@ -12,6 +12,8 @@ use tarpaulark_numbers::cut_number;
 use tarpaulark_numbers::header_answer;
 use tarpaulark_numbers::located_answer;
 use tarpaulark_numbers::located_number;
+use tarpaulark_numbers::paired_answer;
+use tarpaulark_numbers::paired_number;
 use tarpaulark_numbers::verdict_answer;
 use tarpaulark_numbers::verdict_number;
 use tarpaulark_numbers::written_answer;
@@ -30,7 +32,9 @@ ghost use Rattle.sparse_stream_rules.specs.Passes.{judgeCall, storeCall, storeL
 ghost use Rattle.sparse_stream_bytes.specs.Layout.{passOf};
 ghost use Rattle.tarpaulark_passes.specs.Handed.{Held, Handed, HandedAnswer};
 ghost use Rattle.sparse_write_rules.specs.Write as writer;
-ghost use Rattle.tarpaulark_numbers.specs.Numbers.{verdictNumbers, countNumbers, chunkIn, chunkNumbers, headerNumbersBy, layoutNumbers};
+ghost use Rattle.sparse_blocks_rules.specs.Pairs.{refusedImage};
+ghost use Rattle.sparse_diff_rules.specs.Diff as diff;
+ghost use Rattle.tarpaulark_numbers.specs.Numbers.{verdictNumbers, countNumbers, pairNumbers, chunkIn, chunkNumbers, headerNumbersBy, layoutNumbers};
 ghost use Rattle.slot_on_bytes.specs.OnBytes.{onBytes, freshBytes, bytesRefusal};
 
 // Judges an image for a partition of so many bytes. Answers place, then blocks written, don't care, unknown.
@@ -121,6 +125,25 @@ pub extern "C" fn tarpaulark_write(
     let written = sparse_write::write(flat, block_size, image);
     *out = written_answer(written);
     written_number(written)
+}
+
+// Lists what changed from one image to another, runs of three numbers each. Answers place, the image that a refusal is of,
+// how many runs.
+#[no_mangle]
+pub extern "C" fn tarpaulark_compare(
+    first: &[u8],
+    second: &[u8],
+    runs: &mut [u32],
+    out: &mut [u64; 3],
+) -> u32
+    ensures { λ r. ⌜ (r ≡ numberOf (diff.answer (now (first .entry)) (now (second .entry)) (length (now (runs .entry)))))
+        × (now (out .exit) ≡ pairNumbers (refusedImage (now (first .entry)) (now (second .entry)))
+        (diff.answer (now (first .entry)) (now (second .entry)) (length (now (runs .entry)))))
+        × (now (runs .exit) ≡ diff.listed (now (first .entry)) (now (second .entry)) (now (runs .entry))) ⌝ }
+{
+    let found = sparse_diff::compare(first, second, runs);
+    *out = paired_answer(found);
+    paired_number(found)
 }
 
 // Begins a pass over an image of so many bytes that arrives in pieces, for a partition of so many bytes.

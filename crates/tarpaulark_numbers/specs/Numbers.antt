@@ -30,6 +30,11 @@ verdictNumbers = numbersBy 3 (λ c. c .written ∷ c .«dont_care» ∷ c .unkno
 abbrev pub countNumbers : Answer ℕ → List ℕ
 countNumbers = numbersBy 1 (λ n. n ∷ [])
 
+-- the array of an answer about two images: place, the image that a refusal is of, and how many runs
+abbrev pub pairNumbers : ℕ → Answer ℕ → List ℕ
+pairNumbers image (accepted n) = 0 ∷ image ∷ n ∷ []
+pairNumbers image (refused m place) = place ∷ image ∷ 0 ∷ []
+
 -- a kind of chunk as a number: raw 0, fill 1, don't care 2, and 3 where its type is not known
 abbrev pub kindNumber : Kind → ℕ
 kindNumber Raw = 0

@@ -3,6 +3,7 @@ use boot_rules::Layout;
 use boot_rules::Located;
 use boot_rules::Section;
 use slot_bytes::flag_byte;
+use sparse_blocks_rules::Paired;
 use sparse_rules::Chunk;
 use sparse_rules::ChunkRead;
 use sparse_rules::Cursor;
@@ -20,7 +21,8 @@ ghost use Rattle.sparse_rules.specs.Chunks.{chunk};
 ghost use Rattle.sparse_rules.specs.Answers.{answerOf, readingOf};
 ghost use Rattle.sparse_store_rules.specs.Answers.{cutAnswerOf};
 ghost use Rattle.sparse_write_rules.specs.Write as writer;
-ghost use Rattle.tarpaulark_numbers.specs.Numbers.{verdictNumbers, countNumbers, kindNumber, chunkNumbers, headerNumbers, sectionOf, sectionNumbers, layoutNumbers};
+ghost use Rattle.sparse_blocks_rules.specs.Pairs as pairs;
+ghost use Rattle.tarpaulark_numbers.specs.Numbers.{verdictNumbers, countNumbers, pairNumbers, kindNumber, chunkNumbers, headerNumbers, sectionOf, sectionNumbers, layoutNumbers};
 
 // The number that a verdict returns.
 pub fn verdict_number(v: Verdict) -> u32
@@ -141,6 +143,26 @@ pub fn written_answer(w: Outcome) -> [u64; 2]
     match w {
         Outcome::Written(n) => [0, n as u64],
         Outcome::Refused(f) => [f.place, 0],
+    }
+}
+
+// The number that an answer about two images returns.
+pub fn paired_number(p: Paired) -> u32
+    ensures { λ r. ⌜ r ≡ numberOf (pairs.answerOf p) ⌝ }
+{
+    match p {
+        Paired::Done(_) => 0,
+        Paired::Refused(_, f) => f.number,
+    }
+}
+
+// The place of an answer about two images, the image that its refusal is of, and how many runs.
+pub fn paired_answer(p: Paired) -> [u64; 3]
+    ensures { λ r. ⌜ r ≡ pairNumbers (pairs.imageOf p) (pairs.answerOf p) ⌝ }
+{
+    match p {
+        Paired::Done(n) => [0, 0, n as u64],
+        Paired::Refused(image, f) => [f.place, image as u64, 0],
     }
 }
 

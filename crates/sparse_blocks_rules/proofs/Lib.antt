@@ -1,0 +1,7 @@
+pub mod Stretches
+pub mod Passing
+pub mod Giving
+pub mod Comparing
+pub mod SideBySide
+pub mod Pairing
+pub mod Turns

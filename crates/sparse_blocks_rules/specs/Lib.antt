@@ -1,0 +1,6 @@
+pub mod Blocks
+pub mod Same
+pub mod Reading
+pub mod Beside
+pub mod Pairs
+pub mod Theorems

@@ -1,0 +1,48 @@
+-- What holds of the blocks of an image, and of the refusals of two.
+-- Assumes nothing.
+use mathlib.Core.Path.{_≡_}
+use mathlib.Core.Bool.{Bool}
+use mathlib.Core.List.{List}
+use Prim.Native.Nat.{ℕ, _≤_}
+use lib.ListN.{length}
+use Rattle.fields_rules.specs.Number.{Bytes}
+use Rattle.rules.specs.First.{first}
+use Rattle.rules.specs.Answer.{accepted, refused, unless}
+use Rattle.sparse_rules.specs.Header.{blockSize, totalBlocks}
+use Rattle.sparse_rules.specs.Judge.{judged, effect}
+use Rattle.sparse_write_rules.specs.Blocks.{blockCells, AllFit}
+use Rattle.sparse_blocks_rules.specs.Blocks.{needed, found, blocks}
+use Rattle.sparse_blocks_rules.specs.Pairs.{pairAnswer, refusedImage, Accepted, Matched}
+
+-- the blocks of an accepted image
+pub record Given (s : List ℕ) : Type 0 where
+  -- there are as many as its header says
+  pub many : length (blocks s) ≡ totalBlocks s
+  -- each is kept, or holds as many bytes as the block size says
+  pub fit : Bytes s → AllFit (blockSize s) (blocks s)
+  -- they are what the image gives each byte of a partition with room
+  pub effects : (room : ℕ) → needed s ≤ room → effect s room ≡ blockCells (blockSize s) (blocks s)
+
+-- "judged as if the partition had room"
+pub record Judged : Type 0 where
+  -- wherever a partition has enough room, the same is found of the image
+  pub anywhere : (s : List ℕ) (room : ℕ) → needed s ≤ room → judged s (length s) room ≡ found s
+  -- the blocks of every accepted image are what it gives
+  pub given : (s : List ℕ) → Accepted s → Given s
+
+-- which refusal of two images comes, whatever tests follow
+pub record Ordered : Type 0 where
+  -- the first image's own, whatever the second is
+  pub one : (s t : List ℕ) (tests : List (Bool × ℕ)) (m n place : ℕ) → found s ≡ refused n place
+      → (pairAnswer s t tests m ≡ refused n place) × (refusedImage s t ≡ 1)
+  -- then the second's own, whatever its geometry
+  pub other : (s t : List ℕ) (tests : List (Bool × ℕ)) (m n place : ℕ) → Accepted s → found t ≡ refused n place
+      → (pairAnswer s t tests m ≡ refused n place) × (refusedImage s t ≡ 2)
+  -- then 17, where block size or total differs
+  pub differs : (s t : List ℕ) (tests : List (Bool × ℕ)) (m : ℕ) → Accepted s → Accepted t
+      → ((blockSize s ≡ blockSize t) × (totalBlocks s ≡ totalBlocks t) → ⊥) → (pairAnswer s t tests m ≡ refused 17 0) × (refusedImage s t ≡ 0)
+  -- and where they are the same the other tests decide
+  pub same : (s t : List ℕ) (tests : List (Bool × ℕ)) (m : ℕ) → Matched s t
+      → (pairAnswer s t tests m ≡ unless (first tests) 0 (accepted m)) × (refusedImage s t ≡ 0)
+  -- an answer is accepted only where the images match
+  pub only : (s t : List ℕ) (tests : List (Bool × ℕ)) (m n : ℕ) → pairAnswer s t tests m ≡ accepted n → Matched s t × (n ≡ m)

@@ -1,0 +1,5 @@
+pub mod Laying
+pub mod Changes
+pub mod Lists
+pub mod Answering
+pub mod Theorems

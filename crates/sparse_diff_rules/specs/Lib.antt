@@ -1,0 +1,3 @@
+pub mod Diff
+pub mod Laid
+pub mod Theorems
