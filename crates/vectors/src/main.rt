@@ -3,6 +3,7 @@
 // The arguments are the files of the groups, in the order of the constants below. The cases and the lines that must
 // come out are made by tests/reference/vectors.py, which says how a case is laid out; nothing here knows what a
 // right answer is.
+mod compare_cases;
 mod crc_cases;
 mod field_cases;
 mod image_cases;
@@ -36,6 +37,8 @@ const PASSES: usize = 8;
 
 const WRITE: usize = 9;
 
+const COMPARE: usize = 10;
+
 // The lines of a group's cases, one after the other: the group's name, the case's number, its values.
 fn cases(group: usize, name: &[u8], file: &[u8]) {
     let mut at: usize = 0;
@@ -52,7 +55,8 @@ fn cases(group: usize, name: &[u8], file: &[u8]) {
             BOOT => image_cases::boot(rest),
             SPARSE => image_cases::sparse(rest),
             STORE | PASSES => store_cases::case(rest),
-            _ => image_cases::write(rest),
+            WRITE => image_cases::write(rest),
+            _ => compare_cases::block(rest),
         };
         io::write_all(STDOUT_FILENO, b"\n");
         at = past(file, at, len);
@@ -62,7 +66,7 @@ fn cases(group: usize, name: &[u8], file: &[u8]) {
 
 // The groups, each from its file, whose name is the group's and `.bin`.
 fn main() {
-    for group in CRC..WRITE + 1 {
+    for group in CRC..COMPARE + 1 {
         let mut path = io::buffer();
         let len = os::arg(group, &mut path);
         let fd = os::open_read(&path[..len]);

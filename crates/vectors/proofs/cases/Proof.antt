@@ -42,11 +42,14 @@ boot-requires c κs = search needs
 sparse-requires : tie.Need-sparse-requires Inv-loop μ-loop
 sparse-requires c κs = search needs
 
+write-requires : tie.Need-write-requires Inv-loop μ-loop
+write-requires c κs = search needs
+
 case-requires-4 : tie.Need-case-requires-4 Inv-loop μ-loop
 case-requires-4 c κs = search needs
 
-write-requires : tie.Need-write-requires Inv-loop μ-loop
-write-requires c κs = search needs
+block-requires-2 : tie.Need-block-requires-2 Inv-loop μ-loop
+block-requires-2 c κs = search needs
 
 slice-aggregate-write-all : tie.Need-slice-aggregate-write-all Inv-loop μ-loop
 slice-aggregate-write-all c = search needs
@@ -85,8 +88,9 @@ cases-spec =
     block-requires
     boot-requires
     sparse-requires
-    case-requires-4
     write-requires
+    case-requires-4
+    block-requires-2
     slice-aggregate-write-all
     write-all-requires-2
     past-requires
