@@ -1,10 +1,12 @@
 /*
  * bench MIB FOLDER: times judge, store and write on data of MIB MiB against memcpy,
  * zlib's crc32 (with -DWITH_ZLIB), simg2img and img2simg, and prints a table of ratios;
- * then a table of the passes against judge and store. Images are judged and stored with
- * a checksum stated and with none. The tools run on files in FOLDER.
+ * then a table of the passes against judge and store, and one of comparing two images
+ * against memcmp. Images are judged and stored with a checksum stated and with none. The
+ * tools run on files in FOLDER.
  */
 #define _GNU_SOURCE
+#include "compare.h"
 #include "passes.h"
 #include "work.h"
 
@@ -139,9 +141,9 @@ static void put_rows(const struct data *data, struct work *work, size_t mib)
     put_row(data, "write", work, whole.write, quarter.write, than);
 }
 
-static uint8_t *touched(size_t length)
+static void *touched(size_t length)
 {
-    uint8_t *at = malloc(length);
+    void *at = malloc(length);
 
     expect(at != NULL, "too little memory");
     memset(at, 1, length);
@@ -161,6 +163,8 @@ int main(int count, char **words)
     work.flat = touched(mib << 20);
     work.partition = touched(mib << 20);
     work.image = touched(work.image_room);
+    work.other = touched(work.image_room);
+    work.runs = touched((mib << 20) / 256 * TARPAULARK_RUN * sizeof *work.runs);
     printf("%-17s  %-5s  %-8s %9s %9s %9s %9s %9s %9s\n", "data", "job", "checksum", "seconds", "GB/s", "/ memcpy",
            "/ crc32", "/ tool", "growth");
     for (size_t i = 0; i < KINDS; i++) {
@@ -171,5 +175,7 @@ int main(int count, char **words)
     }
     putchar('\n');
     put_passes(&work, mib);
+    putchar('\n');
+    put_comparisons(&work, mib);
     return 0;
 }

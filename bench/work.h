@@ -9,9 +9,12 @@
 #define ABSENT (-1.0)
 
 struct work {
-    uint8_t *flat, *image, *partition;
-    size_t flat_len, image_len, image_room, piece;
+    uint8_t *flat, *image, *partition, *other; /* other: what the image is compared with */
+    uint32_t *runs;
+    size_t flat_len, image_len, image_room, piece, other_len, runs_len;
+    size_t calls; /* comparisons that are timed as one */
     uint32_t block;
+    uint32_t apart; /* one block of each so many is different in the other image; 0: none */
     int unstated; /* the image states no checksum */
     char flat_path[PATH_MAX], image_path[PATH_MAX], out_path[PATH_MAX];
 };

@@ -300,6 +300,18 @@ static void put_name(const char *name)
     }
 }
 
+void name_image(const char *which, const char *path)
+{
+    if (answer.json) {
+        say_text("image", which);
+        say_text("name", path);
+        return;
+    }
+    fprintf(stderr, "in the %s image, ", which);
+    put_name(path);
+    fputc('\n', stderr);
+}
+
 static void explain(const char *path, const char *what, int error)
 {
     end_progress();

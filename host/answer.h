@@ -55,6 +55,9 @@ enum status finish_text(void);
 /* Says a refusal, its place and what it means. */
 enum status refuse(uint32_t number, uint64_t place);
 
+/* Says after a refusal in which of two images it is. */
+void name_image(const char *which, const char *path);
+
 /* More words to an answer or a refusal, a line of their own on standard error. */
 void advise(const char *name, const char *words);
 

@@ -16,6 +16,7 @@ struct request {
     uint64_t limit;
     bool has_length;
     uint64_t length; /* of an image that comes by standard input */
+    bool map;        /* one of the two images in place of the list of runs */
     const char *svg; /* null where there is none */
 };
 
@@ -24,6 +25,7 @@ enum status store(const struct request *request);
 enum status write_image(const struct request *request);
 enum status list(const struct request *request);
 enum status map(const struct request *request);
+enum status diff(const struct request *request);
 enum status sections(const struct request *request);
 enum status slots(const struct request *request);
 

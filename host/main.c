@@ -33,6 +33,11 @@ static const struct command {
      "          partition, the word of a fill"},
     {"map", 1, 1, SVG, map, "map IMAGE [--svg FILE]",
      "draws what a sparse image does to its partition, a cell a stretch of blocks"},
+    {"diff", 2, 2, MAP | SVG, diff, "diff A B [--map] [--svg FILE]",
+     "says what changed between two sparse images of equal block size and total blocks:\n"
+     "          the runs of blocks that neither writes, only the first (A), only the second (B),\n"
+     "          or both, equal or different; then blocks and bytes of each kind; with --map it\n"
+     "          draws both images side by side in place of the runs"},
     {"write", 3, 3, 0, write_image, "write FLAT BLOCK-SIZE OUT", "makes a sparse image from flat bytes"},
     {"sections", 1, 1, 0, sections, "sections BOOT-IMAGE",
      "prints the version of a boot image, then name, position and size of each\n"

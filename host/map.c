@@ -1,20 +1,33 @@
 /* A picture of what a sparse image does to its partition. */
+#include "chunks.h"
 #include "commands.h"
 #include "picture.h"
-#include "replace.h"
 
 #include <inttypes.h>
 #include <stdio.h>
-#include <stdlib.h>
-#include <string.h>
 
-static const struct sign {
-    char letter;
-    const char *meaning;
-} signs[] = {
-    {'#', "raw"}, {'=', "fill"}, {'.', "kept"}, {'?', "unknown, kept too"},
-    {'+', "raw and fill"}, {'%', "partly kept"}, {'!', "partly unknown"},
+/* Painted dark to light in this order, so that the kinds tell apart without colour. */
+static const struct kind kinds[KINDS] = {
+    [TARPAULARK_RAW] = {"raw", "#1f4e79", "stored as they come"},
+    [TARPAULARK_FILL] = {"fill", "#5aa5a0", "stored, one word repeated"},
+    [TARPAULARK_DONT_CARE] = {"kept", "#eef0ea", "left as they were"},
+    [TARPAULARK_UNKNOWN] = {"unknown", "url(#hatched)", "unknown chunk: left as they were"},
 };
+
+static const struct sign signs[] = {
+    {'#', "raw"}, {'=', "fill"}, {'.', "kept"}, {'?', "unknown, kept too"},
+    {'+', "raw and fill"}, {'%', "partly kept"}, {'!', "partly unknown"}, {0, NULL},
+};
+
+static void draw(struct picture *picture, struct walk *walk)
+{
+    struct chunk chunk;
+
+    begin_picture(picture, kinds, KINDS, walk->header[TARPAULARK_HEADER_BLOCK],
+                  walk->header[TARPAULARK_HEADER_TOTAL]);
+    while (next_chunk(walk, &chunk))
+        add_blocks(picture, chunk.kind, chunk.first, chunk.blocks);
+}
 
 /* One kind of block has its own sign; of several, whether some are unknown, else whether all are stored. */
 static char sign_of(const uint64_t parts[KINDS])
@@ -29,19 +42,6 @@ static char sign_of(const uint64_t parts[KINDS])
     return raw && fill ? '+' : raw ? '#' : '=';
 }
 
-/* What a cell is, and what the signs mean that were drawn. */
-static void say_legend(const char *cells, uint64_t per_cell)
-{
-    char text[256];
-    int length = snprintf(text, sizeof text, "a cell is %" PRIu64 " block%s:", per_cell, per_cell == 1 ? "" : "s");
-
-    for (size_t i = 0; i < sizeof signs / sizeof signs[0]; i++)
-        if (strchr(cells, signs[i].letter) != NULL)
-            length += snprintf(text + length, sizeof text - (size_t)length, "  %c %s", signs[i].letter,
-                               signs[i].meaning);
-    say_line(text);
-}
-
 static void say_cells(const struct picture *picture)
 {
     char cells[MOST_CELLS + 1], line[COLUMNS + 32];
@@ -54,7 +54,7 @@ static void say_cells(const struct picture *picture)
         say_line(line);
     }
     if (picture->cells != 0)
-        say_legend(cells, picture->per_cell);
+        say_legend(picture, signs, cells);
     say_only_json("cells", cells);
 }
 
@@ -67,23 +67,8 @@ static void say_picture(const struct picture *picture)
     say_cells(picture);
     say_word("blocks");
     for (size_t kind = 0; kind < KINDS; kind++)
-        say_number(effects[kind], picture->totals[kind]);
+        say_number(kinds[kind].name, picture->totals[kind]);
     end_line();
-}
-
-/* As put_in_place answers. A folder's name is left out of the title. */
-static int save_svg(const struct picture *picture, const struct place *place, const char *image)
-{
-    const char *last = strrchr(image, '/');
-    size_t length;
-    char *text = as_svg(picture, last == NULL ? image : last + 1, &length);
-    int error;
-
-    if (text == NULL)
-        failed(place->path, "cannot be drawn; see that there is memory for it", 0);
-    error = put_bytes(place, text, length);
-    free(text);
-    return error;
 }
 
 enum status map(const struct request *request)
@@ -91,13 +76,11 @@ enum status map(const struct request *request)
     static struct picture picture;
     uint64_t answer[TARPAULARK_JUDGE_ANSWER];
     struct mapped image = open_file(request->words[0], READ_IMAGE);
-    struct place place = {.held = -1};
+    struct place place = svg_place(request->svg);
     struct walk walk;
     uint32_t number;
-    int error = 0;
+    int error;
 
-    if (request->svg != NULL)
-        place = hold_place(request->svg);
     if (place.held >= 0 && is_same(&image.before, &place.old))
         misused(NULL, "IMAGE and the SVG file are one file: name two");
     hold_file(&image);
@@ -107,8 +90,7 @@ enum status map(const struct request *request)
         return refuse(number, answer[TARPAULARK_PLACE]);
     draw(&picture, &walk);
     expect_read(&image);
-    if (request->svg != NULL)
-        error = save_svg(&picture, &place, image.path);
+    error = save_svg(&picture, &place, last_part(image.path));
     say_picture(&picture);
     return stands(&place, error);
 }

@@ -1,35 +1,51 @@
 #include "picture.h"
 
+#include <inttypes.h>
+#include <stdio.h>
 #include <string.h>
 
-const char *const effects[KINDS] = {
-    [TARPAULARK_RAW] = "raw", [TARPAULARK_FILL] = "fill",
-    [TARPAULARK_DONT_CARE] = "kept", [TARPAULARK_UNKNOWN] = "unknown"};
-
-/* Adds a chunk to each cell that it reaches into. */
-static void add(struct picture *picture, const struct chunk *chunk)
+void begin_picture(
+    struct picture *picture, const struct kind *kinds, size_t kind_count, uint64_t block, uint64_t total)
 {
-    uint64_t at = chunk->first, end = at + chunk->blocks;
+    memset(picture, 0, sizeof *picture);
+    picture->kinds = kinds;
+    picture->kind_count = kind_count;
+    picture->block = block;
+    picture->total = total;
+    picture->per_cell = total <= MOST_CELLS ? 1 : (total + MOST_CELLS - 1) / MOST_CELLS;
+    picture->cells = (size_t)((total + picture->per_cell - 1) / picture->per_cell);
+}
 
-    picture->totals[chunk->kind] += chunk->blocks;
+void add_blocks(struct picture *picture, size_t kind, uint64_t first, uint64_t blocks)
+{
+    uint64_t at = first, end = first + blocks;
+
+    picture->totals[kind] += blocks;
     while (at < end) {
         uint64_t cell = at / picture->per_cell, cell_end = (cell + 1) * picture->per_cell;
         uint64_t next = cell_end < end ? cell_end : end;
 
-        picture->parts[cell % MOST_CELLS][chunk->kind] += next - at;
+        picture->parts[cell % MOST_CELLS][kind] += next - at;
         at = next;
     }
 }
 
-void draw(struct picture *picture, struct walk *walk)
+void say_legend(const struct picture *picture, const struct sign *signs, const char *drawn)
 {
-    struct chunk chunk;
+    char text[256];
+    int length = snprintf(text, sizeof text, "a cell is %" PRIu64 " block%s:", picture->per_cell,
+                          picture->per_cell == 1 ? "" : "s");
 
-    memset(picture, 0, sizeof *picture);
-    picture->block = walk->header[TARPAULARK_HEADER_BLOCK];
-    picture->total = walk->header[TARPAULARK_HEADER_TOTAL];
-    picture->per_cell = picture->total <= MOST_CELLS ? 1 : (picture->total + MOST_CELLS - 1) / MOST_CELLS;
-    picture->cells = (size_t)((picture->total + picture->per_cell - 1) / picture->per_cell);
-    while (next_chunk(walk, &chunk))
-        add(picture, &chunk);
+    for (; signs->meaning != NULL; signs++)
+        if (strchr(drawn, signs->letter) != NULL)
+            length += snprintf(text + length, sizeof text - (size_t)length, "  %c %s", signs->letter,
+                               signs->meaning);
+    say_line(text);
+}
+
+const char *last_part(const char *path)
+{
+    const char *last = strrchr(path, '/');
+
+    return last == NULL ? path : last + 1;
 }

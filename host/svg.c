@@ -1,4 +1,5 @@
 /* The picture of a partition as SVG. */
+#include "answer.h"
 #include "characters.h"
 #include "picture.h"
 
@@ -7,19 +8,10 @@
 #include <stdio.h>
 #include <stdlib.h>
 
-enum { LEFT = 96, TOP = 92, RIGHT = 32, LEGEND = 132, NARROWEST = 780, LETTER = 16 };
+enum { LEFT = 96, TOP = 92, RIGHT = 32, LEGEND_LINE = 24, NARROWEST = 780, LETTER = 16 };
 
 /* A small share still shows as this part of its cell. */
 static const double least_share = 0.15;
-
-/* Dark to light in this order, so that the kinds tell apart without colour. */
-static const char *const paints[KINDS] = {
-    [TARPAULARK_RAW] = "#1f4e79", [TARPAULARK_FILL] = "#5aa5a0",
-    [TARPAULARK_DONT_CARE] = "#eef0ea", [TARPAULARK_UNKNOWN] = "url(#unknown)"};
-
-static const char *const does[KINDS] = {
-    [TARPAULARK_RAW] = "stored as they come", [TARPAULARK_FILL] = "stored, one word repeated",
-    [TARPAULARK_DONT_CARE] = "left as they were", [TARPAULARK_UNKNOWN] = "unknown chunk: left as they were"};
 
 /* At most so many characters; dots stand for the rest. */
 static void put_escaped(FILE *out, const char *text, int most)
@@ -62,7 +54,7 @@ static void put_head(FILE *out, const struct picture *picture, const char *title
                  " font-family=\"Helvetica, Arial, sans-serif\" fill=\"#22303c\">\n<title>",
             width, height, width, height);
     put_escaped(out, title, INT_MAX);
-    fputs("</title>\n<defs><pattern id=\"unknown\" width=\"6\" height=\"6\" patternUnits=\"userSpaceOnUse\""
+    fputs("</title>\n<defs><pattern id=\"hatched\" width=\"6\" height=\"6\" patternUnits=\"userSpaceOnUse\""
           " patternTransform=\"rotate(45)\"><rect width=\"6\" height=\"6\" fill=\"#fbe3c4\"/>"
           "<rect width=\"3\" height=\"6\" fill=\"#d9822b\"/></pattern></defs>\n", out);
     fprintf(out, "<rect width=\"%d\" height=\"%d\" rx=\"10\" fill=\"#ffffff\" stroke=\"#d5dade\"/>\n", width, height);
@@ -79,19 +71,19 @@ static void put_head(FILE *out, const struct picture *picture, const char *title
 }
 
 /* The shares of a cell's kinds, each that is there large enough to be seen; they add up to 1. */
-static void shares_of(const uint64_t parts[KINDS], double shares[KINDS])
+static void shares_of(const uint64_t parts[MOST_KINDS], double shares[MOST_KINDS])
 {
     double blocks = 0, sum = 0;
 
-    for (size_t kind = 0; kind < KINDS; kind++)
+    for (size_t kind = 0; kind < MOST_KINDS; kind++)
         blocks += (double)parts[kind];
-    for (size_t kind = 0; kind < KINDS; kind++) {
+    for (size_t kind = 0; kind < MOST_KINDS; kind++) {
         shares[kind] = blocks > 0 ? (double)parts[kind] / blocks : 0;
         if (parts[kind] != 0 && shares[kind] < least_share)
             shares[kind] = least_share;
         sum += shares[kind];
     }
-    for (size_t kind = 0; kind < KINDS && sum > 0; kind++)
+    for (size_t kind = 0; kind < MOST_KINDS && sum > 0; kind++)
         shares[kind] /= sum;
 }
 
@@ -101,25 +93,25 @@ static void put_note(FILE *out, const struct picture *picture, size_t cell)
 
     fprintf(out, "<title>blocks %" PRIu64 " to %" PRIu64 ":", first,
             last < picture->total ? last : picture->total - 1);
-    for (size_t kind = 0; kind < KINDS; kind++)
+    for (size_t kind = 0; kind < picture->kind_count; kind++)
         if (picture->parts[cell][kind] != 0)
-            fprintf(out, " %s %" PRIu64, effects[kind], picture->parts[cell][kind]);
+            fprintf(out, " %s %" PRIu64, picture->kinds[kind].name, picture->parts[cell][kind]);
     fputs("</title>", out);
 }
 
 /* A cell, from its top down in the kinds that it has. */
 static void put_cell(FILE *out, const struct picture *picture, size_t cell, double x, double y, double size)
 {
-    double shares[KINDS], down = y;
+    double shares[MOST_KINDS], down = y;
 
     shares_of(picture->parts[cell], shares);
     fputs("<g>", out);
     put_note(out, picture, cell);
-    for (size_t kind = 0; kind < KINDS; kind++) {
+    for (size_t kind = 0; kind < picture->kind_count; kind++) {
         if (shares[kind] <= 0)
             continue;
         fprintf(out, "<rect x=\"%.1f\" y=\"%.2f\" width=\"%.1f\" height=\"%.2f\" fill=\"%s\"/>", x, down, size,
-                shares[kind] * size, paints[kind]);
+                shares[kind] * size, picture->kinds[kind].paint);
         down += shares[kind] * size;
     }
     fprintf(out, "<rect x=\"%.1f\" y=\"%.1f\" width=\"%.1f\" height=\"%.1f\" fill=\"none\" stroke=\"#22303c\""
@@ -145,20 +137,22 @@ static void put_cells(FILE *out, const struct picture *picture, int pitch)
 /* A line for each kind: its paint, its blocks and bytes, and what becomes of them. */
 static void put_legend(FILE *out, const struct picture *picture, int y)
 {
-    for (size_t kind = 0; kind < KINDS; kind++, y += 24) {
+    for (size_t kind = 0; kind < picture->kind_count; kind++, y += LEGEND_LINE) {
         fprintf(out, "<rect x=\"32\" y=\"%d\" width=\"14\" height=\"14\" fill=\"%s\" stroke=\"#22303c\""
                      " stroke-opacity=\"0.35\"/><g font-size=\"13\"><text x=\"56\" y=\"%d\" font-weight=\"bold\">"
                      "%s</text><text x=\"284\" y=\"%d\" text-anchor=\"end\">",
-                y, paints[kind], y + 12, effects[kind], y + 12);
+                y, picture->kinds[kind].paint, y + 12, picture->kinds[kind].name, y + 12);
         put_number(out, picture->totals[kind]);
         fprintf(out, " block%s</text><text x=\"488\" y=\"%d\" text-anchor=\"end\">",
                 picture->totals[kind] == 1 ? "" : "s", y + 12);
         put_number(out, picture->totals[kind] * picture->block);
-        fprintf(out, " bytes</text><text x=\"512\" y=\"%d\" fill=\"#5b6b78\">%s</text></g>\n", y + 12, does[kind]);
+        fprintf(out, " bytes</text><text x=\"512\" y=\"%d\" fill=\"#5b6b78\">%s</text></g>\n", y + 12,
+                picture->kinds[kind].does);
     }
 }
 
-char *as_svg(const struct picture *picture, const char *title, size_t *length)
+/* The picture as SVG text, which is to be freed; null where there is no memory. */
+static char *as_svg(const struct picture *picture, const char *title, size_t *length)
 {
     int pitch = picture->cells <= COLUMNS / 2 ? 26 : 15;
     int rows = (int)((picture->cells + COLUMNS - 1) / COLUMNS);
@@ -169,7 +163,8 @@ char *as_svg(const struct picture *picture, const char *title, size_t *length)
 
     if (out == NULL)
         return NULL;
-    put_head(out, picture, title, width < NARROWEST ? NARROWEST : width, foot + LEGEND - 24);
+    put_head(out, picture, title, width < NARROWEST ? NARROWEST : width,
+             foot + LEGEND_LINE * (int)picture->kind_count + 12);
     put_cells(out, picture, pitch);
     put_legend(out, picture, foot);
     fputs("</svg>\n", out);
@@ -177,4 +172,25 @@ char *as_svg(const struct picture *picture, const char *title, size_t *length)
         return text;
     free(text);
     return NULL;
+}
+
+struct place svg_place(const char *path)
+{
+    return path == NULL ? (struct place){.held = -1} : hold_place(path);
+}
+
+int save_svg(const struct picture *picture, const struct place *place, const char *title)
+{
+    size_t length;
+    char *text;
+    int error;
+
+    if (place->path == NULL)
+        return 0;
+    text = as_svg(picture, title, &length);
+    if (text == NULL)
+        failed(place->path, "cannot be drawn; see that there is memory for it", 0);
+    error = put_bytes(place, text, length);
+    free(text);
+    return error;
 }

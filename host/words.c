@@ -51,6 +51,12 @@ static void take_dry_run(struct line *line)
     line->request.dry_run = true;
 }
 
+static void take_map(struct line *line)
+{
+    line->options |= MAP;
+    line->request.map = true;
+}
+
 /* An option; how many words it is. */
 static int take_option(struct line *line, char **words)
 {
@@ -72,6 +78,8 @@ static int take_option(struct line *line, char **words)
         line->version = true;
     else if (strcmp(words[0], "--dry-run") == 0)
         take_dry_run(line);
+    else if (strcmp(words[0], "--map") == 0)
+        take_map(line);
     else if (strcmp(words[0], "--json") != 0)
         misused(words[0], "is no option; see tarpaulark --help, and put -- before a name that begins with -");
     return 1;

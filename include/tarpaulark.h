@@ -1,13 +1,13 @@
 /*
  * Tarpaulark: judges and stores Android sparse images, whole or as they arrive in
- * pieces, writes them from flat bytes, finds the sections of a boot image, and
- * keeps the slot record.
+ * pieces, compares two of them, writes them from flat bytes, finds the sections of
+ * a boot image, and keeps the slot record.
  *
  * Every function takes any input and always ends. It returns 0, or the number of
  * the first refusal that applies, and fills the lent array `answer`, whose length
- * is fixed; entries that do not apply are 0. A refusal stores nothing and changes
- * no slot record, with one exception: a storing pass that refuses late (see
- * Passes, below).
+ * is fixed; entries that do not apply are 0. A refusal stores nothing, lists
+ * nothing and changes no slot record, with one exception: a storing pass that
+ * refuses late (see Passes, below).
  *
  * Nothing is allocated, nothing is kept between calls but in what is lent, and
  * nothing is read or written but what is lent. Calls on memory of their own may
@@ -15,17 +15,20 @@
  *
  * What the caller owes
  *
- * Bytes are lent as a pointer and their number. Lend the whole stretch; a pointer
- * whose number is 0 is never followed. An answer, a record and a pass are lent
- * whole, in the lengths that are named below, and must not be null. What is written
- * (a partition, an output, a record, a pass, an answer) must not overlap anything
- * else that is lent to the call, and nobody else writes to what is lent meanwhile.
+ * Bytes, and the numbers of a space for runs, are lent as a pointer and how many
+ * there are. Lend the whole stretch; a pointer with 0 of them is never followed. An
+ * answer, a record and a pass are lent whole, in the lengths that are named below,
+ * and must not be null. Numbers are lent aligned as C has arrays of their type;
+ * bytes may begin anywhere. What is written (a partition, an output, a space for
+ * runs, a record, a pass, an answer) must not overlap anything else that is lent to
+ * the call; what is only read may, so two images may be one and the same. Nobody
+ * else writes to what is lent meanwhile.
  *
  * From 0.3.0 to 0.4.0 the answers of judge, store and of finishing a pass grew from
  * 3 entries to 4, and a pass from 104 bytes to 112. From 0.4.0 to 0.5.0 a slot
  * record grew from 17 bytes to 21, and what stands after slot a's first three bytes
- * moved: use the names below (and see The slot record). Code compiled with an older
- * header lends too little: compile it anew.
+ * moved: use the names below (and see The slot record). Code compiled with a header
+ * before 0.5.0 lends too little: compile it anew. 0.6.0 only adds to 0.5.0.
  *
  * Where it runs
  *
@@ -43,8 +46,12 @@
  * costs at most a fixed number of steps, however many blocks it names. Storing
  * takes that, and time in proportion to the bytes that it stores. A pass takes the
  * same, and a fixed number of steps for each call. Writing takes time in proportion
- * to the flat bytes, which are read three times at most. All else takes a fixed
- * number of steps.
+ * to the flat bytes, which are read three times at most. Comparing takes what
+ * judging both images takes, and time in proportion to their chunks and to the bytes
+ * of the blocks that both write and at least one of them raw: it goes over these
+ * twice at most, and once where the space has three numbers for each block. Any
+ * other blocks cost nothing of their own, however many there are. All else takes a
+ * fixed number of steps.
  *
  * What a restart assumes
  *
@@ -64,10 +71,10 @@
 #include <stdint.h>
 
 /* The version of the header, the library and the host tool; it stands only here. */
-#define TARPAULARK_VERSION "0.5.0"
+#define TARPAULARK_VERSION "0.6.0"
 
-/* Lengths of the answers, of a slot record and each slot in it, and of the state of
-   a pass. */
+/* Lengths of the answers, of a slot record and each slot in it, of the state of a
+   pass, and of a run in numbers. */
 #define TARPAULARK_JUDGE_ANSWER 4
 #define TARPAULARK_STORE_ANSWER 4
 #define TARPAULARK_STORE_LIMITED_ANSWER 2
@@ -81,6 +88,8 @@
 #define TARPAULARK_PIECE_ANSWER 1
 #define TARPAULARK_FINISH_ANSWER 4
 #define TARPAULARK_PASS 112
+#define TARPAULARK_COMPARE_ANSWER 3
+#define TARPAULARK_RUN 3
 
 /* Where the state of a pass has the known fields of the file header, once they have come. */
 #define TARPAULARK_PASS_HEADER 68
@@ -91,8 +100,8 @@
 
 /*
  * Refusals. Tests run in the order listed, but for 13 before 12, 28, 27 before 26,
- * and for a pass 16, 14, 15 before all others. Chunks are tested in order, each
- * fully before the next.
+ * and for a pass 16, 14, 15 before all others; for compare the first image's own,
+ * the second's own, 17, 18. Chunks are tested in order, each fully before the next.
  *
  * A sparse refusal carries a place: 0 for numbers 1 to 6, the chunk's offset for
  * 7, 8 and a passed total, the offset after the header and all chunks for a short
@@ -136,6 +145,10 @@ enum tarpaulark_refusal {
     TARPAULARK_BAD_FEWER = 15,
     /* a pass: the lent partition has another length than announced */
     TARPAULARK_BAD_PARTITION = 16,
+    /* compare: block size or total blocks of the two images differ */
+    TARPAULARK_BAD_GEOMETRY = 17,
+    /* compare: the runs need more numbers than the lent space has */
+    TARPAULARK_BAD_SPACE = 18,
     /* boot input under 44 bytes, or (after 23) under its header length */
     TARPAULARK_BAD_BOOT_LENGTH = 21,
     /* boot magic is not ANDROID! */
@@ -164,7 +177,7 @@ enum tarpaulark_refusal {
 /* Positions in the answers of judge, store, a pass, store_limited and write. The
    counts are those of judge, store and the finishing of a pass; see judge. */
 enum {
-    TARPAULARK_PLACE = 0,           /* of the refusal, in each of them and in chunk's */
+    TARPAULARK_PLACE = 0,           /* of the refusal, in each of them, chunk's and compare's */
     TARPAULARK_COUNT_WRITTEN = 1,   /* blocks of raw and fill chunks */
     TARPAULARK_COUNT_DONT_CARE = 2, /* blocks of don't care chunks */
     TARPAULARK_COUNT_UNKNOWN = 3,   /* blocks of chunks of unknown type */
@@ -196,6 +209,24 @@ enum {
     TARPAULARK_FILL = 1,      /* 0xCAC2 */
     TARPAULARK_DONT_CARE = 2, /* 0xCAC3 */
     TARPAULARK_UNKNOWN = 3    /* any other */
+};
+
+/* Positions in the answer of compare, after the place; in a run; and kinds of a run. */
+enum {
+    TARPAULARK_IMAGE = 1, /* which image a refusal is of: 1, 2, or 0 (see compare) */
+    TARPAULARK_RUNS = 2   /* how many runs; 0 after a refusal */
+};
+enum {
+    TARPAULARK_RUN_FIRST = 0,  /* its first block */
+    TARPAULARK_RUN_BLOCKS = 1, /* its blocks, 1 or more */
+    TARPAULARK_RUN_KIND = 2    /* one of the five kinds below */
+};
+enum {
+    TARPAULARK_NEITHER = 0,     /* neither image writes them */
+    TARPAULARK_ONLY_FIRST = 1,  /* only the first does */
+    TARPAULARK_ONLY_SECOND = 2, /* only the second does */
+    TARPAULARK_EQUAL = 3,       /* both do, with the same bytes */
+    TARPAULARK_DIFFERENT = 4    /* both do, each block with other bytes */
 };
 
 /* Positions in the answer of locate: the version; then section number s has its
@@ -288,6 +319,32 @@ uint32_t tarpaulark_store(
 uint32_t tarpaulark_store_limited(
     const uint8_t *image, size_t image_len, uint8_t *partition, size_t partition_len,
     uint64_t limit, uint64_t answer[TARPAULARK_STORE_LIMITED_ANSWER]);
+
+/*
+ * Compares two sparse images of equal block size and total blocks, block by block.
+ * Reads both, which may be one and the same memory; writes the list of runs to the
+ * first numbers of runs. Each run is three numbers: its first block, its blocks, its
+ * kind. The runs cover every block once, in order, and neighbours differ in kind, so
+ * each is as long as it can be. Two images of 0 blocks have none.
+ *
+ * Kinds: 0 neither image writes the blocks; 1 only the first does; 2 only the second;
+ * 3 both, and to each block the same bytes; 4 both, and to each block other bytes. Raw
+ * and fill that give the same bytes are equal. A block of a don't care chunk, or of
+ * one of unknown type, is not written: it is equal to nothing, not even to zeros.
+ *
+ * runs_len is how many numbers are lent, three for each run that there is room for. 18
+ * comes exactly when three times the number of runs is more, so never where three
+ * times the total blocks are lent. Numbers past the runs, and all of them after a
+ * refusal, keep what they held.
+ *
+ * Refusals: the first image's own, 1 to 5 and 7 to 11; then the second's own; 17;
+ * 18. Each image is judged as if the partition had room for it, so 6 does not come.
+ * answer: place; which image the refusal is of, 1 or 2, but 0 for 17 and 18, whose
+ * place is 0 too, and where nothing is refused; how many runs, 0 after a refusal.
+ */
+uint32_t tarpaulark_compare(
+    const uint8_t *first, size_t first_len, const uint8_t *second, size_t second_len,
+    uint32_t *runs, size_t runs_len, uint64_t answer[TARPAULARK_COMPARE_ANSWER]);
 
 /*
  * Writes the sparse image of flat bytes to the first bytes of out. Output bytes

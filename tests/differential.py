@@ -12,10 +12,10 @@ and ends with 1, also when a call crashes or does not end.
 
 A function of the library takes its arguments in order, then a pointer to the
 numbers it answers with, whose count is fixed; one that answers none takes no such
-pointer.  Bytes are a pointer and a length; a slot record is a pointer to its 21
-bytes, and the state of a pass to its 112.  It returns 0 or the number of its
-refusal; beginning a pass returns nothing.  include/tarpaulark.h has the
-declarations.
+pointer.  Bytes are a pointer and a length; a space for numbers of 32 bits is a
+pointer and how many it has; a slot record is a pointer to its 21 bytes, and the
+state of a pass to its 112.  It returns 0 or the number of its refusal; beginning a
+pass returns nothing.  include/tarpaulark.h has the declarations.
 """
 
 import argparse
@@ -34,11 +34,13 @@ sys.path.insert(0, os.path.join(HERE, "reference"))
 
 import build
 import cases_boot
+import cases_compare
 import cases_passes
 import cases_slots
 import cases_sparse
 import cases_store
 import cases_write
+import compare
 import fields
 import passes
 import sparse
@@ -61,8 +63,11 @@ RECORD_LENGTH = PLACES * SLOT_LENGTH + 1
 STATE_LENGTH = 112
 COME_AT, SUM_AT, COUNTS_AT, HEAD_AT = 28, 36, 56, 68
 LARGEST_LENT = 40000
+MOST_NUMBERS = 3000
 REFUSED = 3
 CHUNK_KINDS = {sparse.RAW: 0, sparse.FILL: 1, sparse.DONT_CARE: 2, sparse.UNKNOWN: 3}
+# What is lent with a count, and how many bytes each takes that is counted.
+COUNTED: Dict[Union[str, int], int] = {"bytes": 1, "numbers": 4}
 
 Argument = Union[bytes, int]
 Expected = Union[bytes, Dict[int, bytes]]
@@ -89,8 +94,9 @@ class Outcome(NamedTuple):
 
 
 class Function(NamedTuple):
-    """A function of the library: its arguments' types (`bytes`, `record`, `state` or
-    a number's width in bits), how many numbers it answers, whether it returns one."""
+    """A function of the library: its arguments' types (`bytes`, `numbers`, `record`,
+    `state` or a number's width in bits), how many numbers it answers, whether it
+    returns one."""
 
     name: str
     types: Tuple[Union[str, int], ...]
@@ -113,7 +119,7 @@ class Kind(NamedTuple):
 # Buffers.
 
 class Guarded:
-    """A buffer lent to the library, between two guards, at any alignment."""
+    """A buffer lent to the library, between two guards, at any alignment that it may have."""
 
     def __init__(self, data: bytes, shift: int) -> None:
         self.length = len(data)
@@ -143,7 +149,7 @@ def signature(function: Function) -> List[Any]:
     """The C types of a function's arguments."""
     types: List[Any] = []
     for kind in function.types:
-        if kind == "bytes":
+        if kind in COUNTED:
             types += [ctypes.c_void_p, ctypes.c_size_t]
         elif isinstance(kind, str):
             types.append(ctypes.c_void_p)
@@ -157,11 +163,25 @@ def as_number_array(data: bytes) -> Tuple[int, ...]:
     return tuple(int.from_bytes(data[at:at + 8], sys.byteorder) for at in range(0, len(data), 8))
 
 
+def as_space(numbers: Sequence[int]) -> bytes:
+    """The bytes of a space that holds some 32-bit numbers."""
+    return b"".join(number.to_bytes(COUNTED["numbers"], sys.byteorder) for number in numbers)
+
+
+def lent_buffer(kind: Union[str, int], data: bytes, rng: random.Random) -> Guarded:
+    """A buffer for an argument: at any byte, or where a number may stand."""
+    step = COUNTED.get(kind, 1)
+    return Guarded(data, step * below(rng, 8 // step))
+
+
 def outcome_of(
     foreign: Any, function: Function, arguments: Sequence[Argument], rng: random.Random
 ) -> Outcome:
     """Calls the library."""
-    lent = [Guarded(item, below(rng, 8)) for item in arguments if isinstance(item, bytes)]
+    lent = [
+        lent_buffer(kind, item, rng) for kind, item in zip(function.types, arguments)
+        if isinstance(item, bytes)
+    ]
     out = Guarded(OUT_BYTE * (8 * function.answers), 0)
     values: List[int] = []
     buffers = iter(lent)
@@ -169,7 +189,7 @@ def outcome_of(
         if isinstance(item, bytes):
             address = next(buffers).address()
             values.append(address if item or below(rng, 2) == 0 else 0)
-            values += [len(item)] if kind == "bytes" else []
+            values += [len(item) // COUNTED[kind]] if kind in COUNTED else []
         else:
             values.append(item)
     number = foreign(*values, *([out.address()] if function.answers else []))
@@ -290,6 +310,50 @@ def partition_for(rng: random.Random, image: bytes) -> bytes:
     return some_bytes(rng, min(partition_length(rng, image), 3000 + below(rng, 40)))
 
 
+def near_pair(rng: random.Random) -> cases_compare.Images:
+    """Two images that name many blocks, or of few blocks that are nearly the same."""
+    kind = below(rng, 8)
+    if kind <= 1:
+        return cases_compare.wide_pair(rng)
+    sizes, most = ((256, 1024, 4096), 6) if kind == 2 else ((4, 8, 12, 16, 20, 60, 64), 24)
+    return cases_compare.images_of(rng, cases_compare.random_pair(rng, sizes, most))
+
+
+def hostile(rng: random.Random, image: bytes) -> bytes:
+    """The image damaged, with the right checksum or not; or any other input."""
+    other = damaged(rng, image, pick(rng, (28, len(image))))
+    return pick(rng, (other, with_its_checksum(other), sparse_input(rng, False)))
+
+
+def pair_input(rng: random.Random) -> cases_compare.Images:
+    """Two images to compare, mostly such that can be; or one of them, or both, hostile, or
+    the second of another pair, or with other checksums."""
+    first, second = near_pair(rng)
+    kind = below(rng, 16)
+    if kind == 0:
+        return first, hostile(rng, pick(rng, (first, second)))
+    if kind == 1:
+        return hostile(rng, first), second
+    if kind == 2:
+        return hostile(rng, first), hostile(rng, second)
+    if kind == 3:
+        return first, near_pair(rng)[1]
+    if kind == 4:
+        return restated(rng, first), restated(rng, second)
+    return first, second
+
+
+def numbers_lent(rng: random.Random, first: bytes, second: bytes) -> int:
+    """As many numbers as the runs take, or some less or more; three for each block, or
+    nearly so; none; or any."""
+    answer = compare.compare(first, second, ROOM)
+    runs = len(answer.runs) if isinstance(answer, compare.Listed) else 0
+    blocks = min(sparse.read_header(first).total_blocks, MOST_NUMBERS // compare.RUN_NUMBERS)
+    near = compare.RUN_NUMBERS * runs + pick(rng, (-3, -2, -1, 0, 0, 0, 0, 1, 2, 9))
+    all_single = compare.RUN_NUMBERS * blocks + pick(rng, (-2, -1, 0, 0, 1))
+    return max(0, pick(rng, (near, near, near, near, all_single, all_single, 0, below(rng, 99))))
+
+
 def boot_input(rng: random.Random) -> bytes:
     """A boot image, whole or damaged, or bytes that are none."""
     image = cases_boot.random_image(rng)
@@ -396,6 +460,16 @@ def chunk_call(rng: random.Random) -> Call:
     kind = CHUNK_KINDS[chunk.kind]
     out = (0, kind, chunk.blocks, chunk.data_at, chunk.end, first + chunk.blocks)
     return Call((image, at, first), 0, out, (image,))
+
+
+def compare_call(rng: random.Random) -> Call:
+    """`compare`: place, image, how many runs; the runs stand in the space."""
+    first, second = pair_input(rng)
+    space = [rng.getrandbits(32) for _ in range(numbers_lent(rng, first, second))]
+    answer = compare.compare(first, second, len(space))
+    number, *out = cases_compare.answer_values(answer)
+    after = as_space(compare.space_after(answer, space))
+    return Call((first, second, as_space(space)), number, tuple(out), (first, second, after))
 
 
 def locate_call(rng: random.Random) -> Call:
@@ -667,6 +741,7 @@ KINDS = (
     single("write", ("bytes", 32, "bytes"), 2, write_call),
     single("header", ("bytes", 64), 6, header_call),
     single("chunk", ("bytes", 64, 32), 6, chunk_call),
+    single("compare", ("bytes", "bytes", "numbers"), 3, compare_call),
     single("locate", ("bytes",), 19, locate_call),
     single("slots_valid", ("record",), 0, valid_call),
     single("slots_fresh", (32, "record"), 2, fresh_call),

@@ -34,7 +34,9 @@ ROOT = os.path.dirname(HERE)
 sys.path[:0] = [os.path.join(HERE, "reference"), os.path.join(ROOT, "host")]
 
 import build
+import cases_compare
 import cases_store
+import compare
 import demo
 import passes
 import sparse
@@ -63,6 +65,16 @@ STRANGE = build.sparse_image(4, [
     build.fill(b"efgh", 1), build.unknown(0, 2, b"moredata"),
 ])
 
+# Two images with blocks of every kind of change, of one and of several blocks, over chunks that end elsewhere.
+LAST = build.sparse_image(4, [
+    build.raw(b"abcdabceaaaa", 4), build.fill(b"aaaa", 3), build.skip(2), build.unknown(7, 1, b"more"),
+    build.fill(b"zzzz", 2), build.skip(3), build.raw(b"12345678", 4),
+])
+NEXT = build.sparse_image(4, [
+    build.raw(b"abcdabcfaaaa", 4), build.raw(b"aaaaaaaabbbb", 4), build.skip(1), build.raw(b"wxyz", 4),
+    build.fill(b"qqqq", 1), build.skip(2), build.fill(bytes(4), 2), build.skip(3),
+])
+
 # Where a slot of a record has its tries.
 TRIES = 4
 
@@ -84,6 +96,12 @@ FILES: Dict[str, bytes] = {
     "hollow": HOLLOW,
     "strange": STRANGE,
     "unsummed": build.sparse_image(4, PLANS, checksum=0),
+    "last": LAST,
+    "next": NEXT,
+    "raws": build.sparse_image(8, [build.raw(b"abcdabcd" * 3, 8)]),
+    "fills": build.sparse_image(8, [build.fill(b"abcd", 3)]),
+    "zeros": build.sparse_image(8, [build.fill(bytes(4), 2), build.raw(bytes(8), 8)]),
+    "gaps": build.sparse_image(8, [build.skip(1), build.unknown(5, 2, bytes(8))]),
     "none": b"",
     "none2": b"",
     "nothing": build.sparse_image(4096, []),
@@ -130,6 +148,57 @@ DRAWN = """block 4 total 10 cell 1
          0  ##===..?=.
 a cell is 1 block:  # raw  = fill  . kept  ? unknown, kept too
 blocks raw 2 fill 4 kept 3 unknown 1"""
+
+CHANGED_NOTHING = """block 4 total 3 runs 2
+first block kind            blocks           bytes
+          0 equal                1               4
+          1 neither              2               8
+      total neither              2               8
+      total only first           0               0
+      total only second          0               0
+      total equal                1               4
+      total different            0               0"""
+
+CHANGED = """block 4 total 16 runs 10
+first block kind            blocks           bytes
+          0 equal                1               4
+          1 different            1               4
+          2 equal                3              12
+          5 different            1               4
+          6 neither              1               4
+          7 only second          2               8
+          9 only first           2               8
+         11 only second          2               8
+         13 neither              1               4
+         14 only first           2               8
+      total neither              2               8
+      total only first           4              16
+      total only second          4              16
+      total equal                4              16
+      total different            2               8"""
+
+CHANGED_MAP = """block 4 total 16 runs 10 cell 1
+     block  first                             second
+         0  =#===#...++...++                  =#===#.++..++...
+a cell is 1 block:  . not written  + in this image alone  = in both, equal  # in both, different
+            kind            blocks           bytes
+      total neither              2               8
+      total only first           4              16
+      total only second          4              16
+      total equal                4              16
+      total different            2               8"""
+
+
+def changed_alike(kind: str, block: int, total: int) -> str:
+    """What is said of images of which all blocks are of one kind; none where there are no blocks."""
+    kinds = ("neither", "only first", "only second", "equal", "different")
+    lines = [f"block {block} total {total} runs {min(total, 1)}", "first block kind            blocks           bytes"]
+    lines += [f"          0 {kind:11} {total:10} {total * block:15}"] * min(total, 1)
+    for one in kinds:
+        blocks = total if one == kind else 0
+        lines.append(f"      total {one:11} {blocks:10} {blocks * block:15}")
+    return "\n".join(lines)
+
 
 DRY = """ok written 6 skipped 3 unknown 1
 kept from 20 before 32
@@ -195,6 +264,41 @@ CASES = (
     Case("map p2 --svg p2", 2, ""),
     Case("map p2 --svg", 2, ""),
     Case("map p2 --svg --help", 2, ""),
+    Case("diff p2 p2", 0, CHANGED_NOTHING),
+    Case("diff p2 p7", 0, CHANGED_NOTHING),
+    Case("diff p7 p8", 0, CHANGED_NOTHING),
+    Case("diff last next", 0, CHANGED),
+    Case("diff last next --map", 0, CHANGED_MAP),
+    Case("diff raws fills", 0, changed_alike("equal", 8, 3)),
+    Case("diff fills raws", 0, changed_alike("equal", 8, 3)),
+    Case("diff raws raws", 0, changed_alike("equal", 8, 3)),
+    Case("diff zeros fills", 0, changed_alike("different", 8, 3)),
+    Case("diff zeros gaps", 0, changed_alike("only first", 8, 3)),
+    Case("diff gaps zeros", 0, changed_alike("only second", 8, 3)),
+    Case("diff gaps gaps", 0, changed_alike("neither", 8, 3)),
+    Case("diff nothing nothing", 0, changed_alike("neither", 4096, 0)),
+    Case("diff p6 p2", 1, "refused 10 at 56"),
+    Case("diff p2 p6", 1, "refused 10 at 56"),
+    Case("diff wrong p6", 1, "refused 11 at 24"),
+    Case("diff p6 wrong", 1, "refused 10 at 56"),
+    Case("diff kinds p6", 1, "refused 10 at 56"),
+    Case("diff p6 kinds --svg refused", 1, "refused 10 at 56"),
+    Case("diff p2 none", 1, "refused 1 at 0"),
+    Case("diff p2 kinds", 1, "refused 17 at 0"),
+    Case("diff p2 raws --map", 1, "refused 17 at 0"),
+    Case("diff p2 nothing", 1, "refused 17 at 0"),
+    Case("diff p2 p7 --svg p2", 2, ""),
+    Case("diff p2 p7 --svg p7", 2, ""),
+    Case("diff p2 p7 --svg", 2, ""),
+    Case("diff p2 p7 --limit 1", 2, ""),
+    Case("diff p2 - --length 56", 2, ""),
+    Case("diff p2", 2, ""),
+    Case("diff p2 p2 p2", 2, ""),
+    Case("diff", 2, ""),
+    Case("diff p2 missing", 3, ""),
+    Case("diff missing p2", 3, ""),
+    Case("diff - p2", 3, ""),
+    Case("map p2 --map", 2, ""),
     Case("write flat 8 image", 0, "ok bytes 64"),
     Case("write none 4096 small", 0, "ok bytes 28"),
     Case("write flat 0 refused", 1, "refused 5 at 0"),
@@ -370,7 +474,8 @@ def printed_into_files(tool: Tool) -> None:
             expect(tool.run(words, out).returncode == 2, f"{words} {out}: the status")
             expect(read("fresh") == FILES["cut"], f"{words} {out}: the partition")
     save("tried", TRIED)
-    for words, name in (("list p2", "p2"), ("slots tried show", "tried"), ("slots tried start", "tried"),
+    for words, name in (("list p2", "p2"), ("diff p2 p7", "p2"), ("diff p2 p7", "p7"), ("diff p2 p7 --svg p6", "p6"),
+                        ("slots tried show", "tried"), ("slots tried start", "tried"),
                         ("write flat 8 p6", "p6"), ("judge - 12 --length 56 <p2", "p2"),
                         ("store - p6 --length 56 <p2", "p6"), ("store - p6 --length 56 <p2", "p2")):
         before = read(name)
@@ -393,7 +498,8 @@ def kinds_of_targets(tool: Tool) -> None:
     os.mkdir("folder")
     node = device_node("/dev/null", stat.S_IFCHR)
     for target in ("pipe", "folder", node):
-        for words in ("write flat 8 {}", "slots {} fresh 2", "slots {} start", "map p2 --svg {}", "store p2 {}"):
+        for words in ("write flat 8 {}", "slots {} fresh 2", "slots {} start", "map p2 --svg {}", "store p2 {}",
+                      "diff p2 p7 --svg {}"):
             expect_end(tool.run(words.format(target)), 2)
     expect(stat.S_ISFIFO(os.stat("pipe").st_mode), "the pipe is replaced")
     expect(stat.S_ISCHR(os.stat(node).st_mode), "the null device is replaced")
@@ -484,6 +590,8 @@ def locks(tool: Tool) -> None:
         with locked("p2", kind):
             status = 0 if kind == fcntl.LOCK_SH else 3
             expect_end(tool.run("judge p2 12"), status)
+            expect_end(tool.run("diff p2 p7"), status)
+            expect_end(tool.run("diff p7 p2"), status)
             expect_end(tool.run("write flat 8 p2"), 3, "is busy")
     expect(read("cut") == FILES["cut"] and read("tried") == TRIED and read("p2") == FILES["p2"], "files while held")
 
@@ -540,10 +648,13 @@ def changed_image(tool: Tool) -> None:
     lost = json.loads(tool.run("judge kinds 40 --json", CUT="kinds").stdout)
     expect(lost["status"] == 3, "an object for a lost file")
     for words in ("judge p2 12", "judge p6 12", "list p2", "map p2", "sections p2", "store p2 cut --dry-run",
-                  "store p6 cut --dry-run", "write p2 4 image", "store p2 cut", "store p6 cut"):
+                  "store p6 cut --dry-run", "write p2 4 image", "store p2 cut", "store p6 cut", "diff p2 p7",
+                  "diff p6 p7"):
         name = words.split()[1]
         save(name, FILES[name])
         expect_end(tool.run(words, GROW=name), 3, "changed while it was")
+    expect_end(tool.run("diff none p7", GROW="p7"), 3, "p7: changed while it was")
+    expect_end(tool.run("diff last next", CUT="last"), 3, "to its end")
 
 
 def lost_partitions(tool: Tool) -> None:
@@ -566,7 +677,8 @@ def bad_disk(tool: Tool) -> None:
     save("tried", TRIED)
     before = set(os.listdir("."))
     kept = [(words, {fault: "1"}, "nothing is changed") for fault in ("FULL", "BAD_FILE")
-            for words in ("slots tried start", "slots new fresh 2", "map p2 --svg new", "map p2 --svg p6")]
+            for words in ("slots tried start", "slots new fresh 2", "map p2 --svg new", "map p2 --svg p6",
+                          "diff p2 p7 --svg new")]
     for words, faults, said in kept + [
         ("write flat 8 p6", {"BAD_FILE": "1"}, "nothing is changed"),
         ("write flat 8 new", {"BAD_FILE": "1", "NO_NAMELESS": "1"}, "nothing is changed"),
@@ -585,7 +697,8 @@ def pipes_as_images(tool: Tool) -> None:
         expect_end(tool.run("write /proc/version 4 image"), 2, "length")
     os.mkfifo("pipe")
     for words in ("judge pipe 12", "store pipe cut", "store pipe cut --dry-run", "list pipe", "map pipe",
-                  "sections pipe", "write pipe 4096 image", "slots pipe show", "judge /dev/stdin 12"):
+                  "sections pipe", "write pipe 4096 image", "slots pipe show", "judge /dev/stdin 12",
+                  "diff pipe p2", "diff p2 pipe"):
         expect_end(tool.run(words, "</dev/null" if "stdin" in words else ""), 2)
 
 
@@ -1041,6 +1154,180 @@ def told_on_terminals(tool: Tool) -> None:
     expect(changed[0] == 3 and "the image changed while it was stored; store it again" in changed[2], f"{changed}")
 
 
+# What changed between two images.
+
+CHANGES = ("neither", "only first", "only second", "equal", "different")
+
+# What a cell of one kind is drawn as, of the first image and of the second.
+SIDES = {"neither": "..", "only first": "+.", "only second": ".+", "equal": "==", "different": "##"}
+
+
+def expect_changes(tool: Tool, runs: Sequence[compare.Run], block: int, total: int) -> None:
+    """What is said of the images in `first` and `second`, which have these runs: as an object and in text."""
+    told = json.loads(tool.run("diff first second --json").stdout)
+    listed = [(run["first"], run["blocks"], CHANGES.index(run["kind"])) for run in told["list"]]
+    expect(listed == [tuple(run) for run in runs] and told["runs"] == len(runs), f"runs {runs}, not {told}")
+    expect((told["block"], told["total"], told["status"]) == (block, total, 0), f"{told}")
+    expect(all(run["bytes"] == run["blocks"] * block for run in told["list"]), f"bytes of runs, {told}")
+    totals = [sum(run.blocks for run in runs if run.kind == kind) for kind in range(len(CHANGES))]
+    wanted = [{"kind": kind, "blocks": blocks, "bytes": blocks * block} for kind, blocks in zip(CHANGES, totals)]
+    expect(told["totals"] == wanted and sum(totals) == total, f"totals {wanted}, not {told['totals']}")
+    done = tool.run("diff first second")
+    lines = [f"{run['first']:11} {run['kind']:11} {run['blocks']:10} {run['bytes']:15}" for run in told["list"]]
+    lines += [f"      total {one['kind']:11} {one['blocks']:10} {one['bytes']:15}" for one in wanted]
+    expect(done.stdout.split("\n")[2:-1] == lines and not done.stderr, f"{lines} expected", done)
+
+
+def expect_cells(tool: Tool, runs: Sequence[compare.Run]) -> None:
+    """How the images in `first` and `second`, which have these runs and a cell for each block, are drawn."""
+    told = json.loads(tool.run("diff first second --map --json").stdout)
+    cells = ["".join(SIDES[CHANGES[run.kind]][side] * run.blocks for run in runs) for side in range(2)]
+    expect([told["first"], told["second"]] == cells and told["cell"] == 1, f"cells {cells}, not {told}")
+    lines = tool.run("diff first second --map").stdout.split("\n")[2:]
+    for at in range(0, len(cells[0]), 32):
+        line = f"{at:10}  {cells[0][at:at + 32]:32}  {cells[1][at:at + 32]}"
+        expect(lines[at // 32] == line, f"{line!r} expected, not {lines}")
+
+
+def compared_as_the_reference(tool: Tool) -> None:
+    """Runs, totals and cells of random images are those of the reference."""
+    rng = random.Random(15)
+    for _ in range(12):
+        pair = cases_compare.random_pair(rng, (4, 8, 12), 90)
+        first, second = cases_compare.images_of(rng, pair)
+        save("first", first)
+        save("second", second)
+        runs = compare.runs_of(first, second)
+        expect_changes(tool, runs, pair.size, len(pair.first))
+        expect_cells(tool, runs)
+
+
+def refused_as_the_reference(tool: Tool) -> None:
+    """An image that is refused, as the first, as the second and as both; other geometry too."""
+    other = FILES["kinds"]
+    for image in cases_compare.refused_images():
+        for first, second in ((image, other), (other, image), (image, FILES["wrong"]), (FILES["p6"], image)):
+            save("first", first)
+            save("second", second)
+            refusal = compare.compare(first, second, 99)
+            assert isinstance(refusal, compare.Refusal)
+            name = ("first", "second")[refusal.image - 1]
+            done = tool.run("diff first second")
+            expect_end(done, 1, f"refused {refusal.number} at {refusal.place}\n")
+            expect(done.stderr.endswith(f"\nin the {name} image, {name}\n") and not done.stdout, f"{refusal}", done)
+            told = json.loads(tool.run("diff first second --json").stdout)
+            expect((told["number"], told["place"], told["image"], told["name"], told["status"])
+                   == (refusal.number, refusal.place, name, name, 1), f"{refusal}: {told}")
+
+
+def told_of_refusals(tool: Tool) -> None:
+    """All that is said of a refusal: the file, by its name as given, or block sizes and totals."""
+    save("first", FILES["p6"])
+    said = "refused 10 at 56\nbytes remain after the last chunk\nin the {} image, {}\n"
+    expect_end(tool.run("diff ./first p2"), 1, said.format("first", "./first"))
+    expect_end(tool.run("diff p2 ./first"), 1, said.format("second", "./first"))
+    differ = "block size or total blocks of the two images differ"
+    for names, geometry in (("p2 kinds", "first image: block 4 total 3; second image: block 4 total 10"),
+                            ("raws p2", "first image: block 8 total 3; second image: block 4 total 3"),
+                            ("nothing p2", "first image: block 4096 total 0; second image: block 4 total 3")):
+        done, told = tool.run(f"diff {names}"), json.loads(tool.run(f"diff {names} --json").stdout)
+        expect(done.stderr == f"refused 17 at 0\n{differ}\n{geometry}\n" and not done.stdout, names, done)
+        expect((told["number"], told["place"]) == (17, 0) and told["meaning"] == differ, f"{told}")
+        expect(told["geometry"] == geometry and "image" not in told and "name" not in told, f"{told}")
+
+
+def compared_vast(tool: Tool) -> None:
+    """Images of 2^32 - 1 blocks of 65,536 bytes."""
+    first = [build.skip(2**30), build.unknown(9, 2**30), build.fill(b"\0\0\0\1", 2**31 - 1)]
+    second = [build.fill(b"\0\0\0\1", 2**30), build.skip(2**30 - 1), build.fill(b"\0\0\0\1", 2**30),
+              build.fill(b"\0\0\0\2", 2**30)]
+    save("first", build.sparse_image(65536, first))
+    save("second", build.sparse_image(65536, second))
+    runs = ((0, 2**30, 2), (2**30, 2**30 - 1, 0), (2**31 - 1, 1, 2), (2**31, 2**30 - 1, 3),
+            (2**31 + 2**30 - 1, 2**30, 4))
+    expect_changes(tool, [compare.Run(*run) for run in runs], 65536, 2**32 - 1)
+    told = json.loads(tool.run("diff first second --map --json").stdout)
+    expect(told["first"] == "." * 512 + "=" * 255 + "%" + "#" * 256, f"cells of the first, {told['first']}")
+    expect(told["second"] == "+" * 256 + "." * 255 + "%" + "=" * 255 + "%" + "#" * 256, f"{told['second']}")
+    save("first", FILES["p2"])
+    done = tool.run("diff first second")
+    expect_end(done, 1, "first image: block 4 total 3; second image: block 65536 total 4294967295\n")
+
+
+# Cells of three blocks each: what the two images do, and the signs for both.
+MIXED_CHANGES = (
+    ("...", "...", ".."), ("aaa", "...", "+."), ("...", "aaa", ".+"), ("aaa", "aaa", "=="), ("aaa", "bbb", "##"),
+    (".a.", ".a.", "--"), (".a.", "...", "%."), ("...", "a..", ".%"), ("aaa", "aab", "%%"), ("a..", "a.a", "%%"),
+    ("a.a", "aaa", "%%"), ("a..", "..a", "%%"), (".aa", ".ab", "%%"), ("aaa", "b..", "%%"), ("ab.", "ab.", "--"),
+)
+
+
+def plans_of(blocks: str) -> List[build.ChunkPlan]:
+    """A chunk for each block, skipped for a dot."""
+    return [build.skip(1) if block == "." else build.raw(block.encode("ascii") * 4, 4) for block in blocks]
+
+
+def compared_mixed(tool: Tool) -> None:
+    """A cell of several kinds tells whether some of its blocks changed, of an image that writes any of them."""
+    for side, name in enumerate(("first", "second")):
+        blocks = "".join(cell[side] for cell in MIXED_CHANGES)
+        save(name, build.sparse_image(4, plans_of(blocks) + [build.fill(bytes(4), 3 * 1009)]))
+    runs = len(compare.runs_of(read("first"), read("second")))
+    lines = tool.run("diff first second --map").stdout.split("\n")
+    cells = ["".join(signs[side] for _, _, signs in MIXED_CHANGES).ljust(32, "=") for side in range(2)]
+    legend = ("a cell is 3 blocks:  . not written  + in this image alone  = in both, equal  # in both, different"
+              "  - mixed, none changed  % mixed, some changed")
+    expect(lines[0] == f"block 4 total 3072 runs {runs} cell 3", f"{lines}")
+    expect(lines[2] == f"{0:10}  {cells[0]}  {cells[1]}", f"{lines}")
+    expect(lines[33] == f"{2976:10}  {'=' * 32}  {'=' * 32}" and lines[34] == legend, f"{lines}")
+
+
+def compared_in_svg(tool: Tool) -> None:
+    """The picture has both names, a note for each cell and a line for each kind."""
+    done = tool.run("diff ./last next --svg picture.svg")
+    expect(done.stdout == CHANGED + "\n" and not done.stderr, "the answer", done)
+    texts = list(xml.etree.ElementTree.parse("picture.svg").getroot().itertext())
+    expect("last and next" in texts and "blocks 5 to 5: different 1" in texts, f"{texts}")
+    legend = texts.index("only second")
+    expect(texts[legend:legend + 4] == ["only second", "4 blocks", "16 bytes", "only the second image writes them"],
+           f"the legend, {texts[legend:legend + 4]}")
+
+
+def save_alternating(blocks: int, gap: int) -> None:
+    """Images of so many blocks that are equal and different in turn, before blocks that are skipped."""
+    for name, two in (("first", b"samesame"), ("second", b"sameelse")):
+        save(name, build.sparse_image(4, [build.raw(two * (blocks // 2), 4), build.skip(gap)], checksum=0))
+
+
+def compared_at_length(tool: Tool) -> None:
+    """Lists of more runs than there is room for at first: the space grows until it is enough."""
+    for blocks, gap in ((65536, 0), (65536, 1), (70000, 0), (262144, 2**31), (300000, 2**32 - 1 - 300000)):
+        save_alternating(blocks, gap)
+        told = json.loads(tool.run("diff first second --map --json").stdout)
+        expect(told["runs"] == blocks + (gap > 0) and told["status"] == 0, f"{blocks} runs, not {told['runs']}")
+        totals = [gap, 0, 0, blocks // 2, blocks // 2]
+        expect([one["blocks"] for one in told["totals"]] == totals, f"totals of {blocks} runs, {told['totals']}")
+    save_alternating(70000, 3)
+    runs = [compare.Run(block, 1, 3 + block % 2) for block in range(70000)] + [compare.Run(70000, 3, 0)]
+    expect_changes(tool, runs, 4, 70003)
+
+
+def no_memory(tool: Tool) -> None:
+    """Where there is no memory for the list, that is told, in words and as an object."""
+    save_alternating(300000, 2**31)
+    environment = tool.environment()
+    limit = "ulimit -v 13000; "
+    if b"__asan_init" in read(tool.path):
+        limit = ""
+        environment["ASAN_OPTIONS"] += ":max_allocation_size_mb=8:allocator_may_return_null=1"
+    words = "cannot be compared; see that there is memory for 1048576 runs of 12 bytes each"
+    for more in ("", " --json"):
+        done = subprocess.run(["sh", "-c", f'{limit}exec "$0" diff first second{more}', tool.path], env=environment,
+                              capture_output=True, text=True, timeout=LONGEST_WAIT, check=False)
+        said = json.loads(done.stdout)["words"] if more else done.stderr
+        expect(done.returncode == 3 and words in said, "what is said", done)
+
+
 # The slot record.
 
 # An operation, the record before it, what it says, and the record after it.
@@ -1190,7 +1477,7 @@ def same_words(tool: Tool) -> None:
     told = tool.run("--help").stdout
     usages = re.findall(r"^ *(?:usage:)? tarpaulark (.*)$", told, re.MULTILINE)
     statuses = re.findall(r"^(?:Exit status:)? +([0-4]) (.*)$", told, re.MULTILINE)
-    expect(len(usages) == 11 and len(statuses) == 5, f"the help {told}")
+    expect(len(usages) == 12 and len(statuses) == 5, f"the help {told}")
     man = text_of_man(read(os.path.join(ROOT, "host", "tarpaulark.1")).decode("ascii"))
     readme = read(os.path.join(ROOT, "README.md")).decode("utf-8")
     for usage in usages:
@@ -1201,7 +1488,7 @@ def same_words(tool: Tool) -> None:
     for number, words in statuses:
         expect(f"{number} {words}.".replace("`", "").lower() in man.lower(), f"the man page lacks {words}")
         expect(f"| {number} | {words} |" in readme, f"README.md lacks {words}")
-    for option in ("--json", "-h", "--help", "--version", "--limit", "--length", "--dry-run", "--svg", "--"):
+    for option in ("--json", "-h", "--help", "--version", "--limit", "--length", "--dry-run", "--map", "--svg", "--"):
         for name, text in (("the help", told), ("the man page", man), ("README.md", readme.replace("`", " "))):
             expect(re.search(rf"(?<![\w-]){option}(?![\w-])", text) is not None, f"{name} lacks {option}")
 
@@ -1214,6 +1501,8 @@ def not_printed(tool: Tool) -> None:
     expect(tool.run("judge p6 12", ">/dev/full").returncode == 1, "a refusal")
     expect_end(tool.run("--help", ">/dev/full"), 4)
     expect_end(tool.run("list p2 --json", ">/dev/full"), 4)
+    for more in ("", " --json", " --map"):
+        expect_end(tool.run(f"diff last next{more}", ">/dev/full"), 4)
     process = tool.begin("list kinds")
     assert process.stdout is not None
     process.stdout.close()
@@ -1242,7 +1531,8 @@ def same_in_json(tool: Tool) -> None:
     save("tried", TRIED)
     for words in ("judge p2 12", "judge p6 12", "judge p7 12", "judge p8 12", "store p2 cut", "store p2 cut --limit 1",
                   "store p7 cut", "store kinds long --dry-run", "store p6 cut", "list kinds", "list p6", "list p7",
-                  "list strange", "map kinds", "map p6",
+                  "list strange", "map kinds", "map p6", "diff p2 p7", "diff last next", "diff last next --map",
+                  "diff nothing nothing", "diff p6 p2", "diff p2 kinds",
                   "write flat 8 image", "write flat 12 image", "sections boot", "sections flat",
                   "slots tried show", "slots odd show", "slots old show", "slots tried corrupted a",
                   "slots tried fresh 5", "slots tried fresh 3"):
@@ -1304,10 +1594,15 @@ def as_the_reference(tool: Tool) -> None:
         expect([(span["from"], span["before"]) for span in kept] == spans, f"kept bytes {kept}, not {spans}")
 
 
+ODD_NAMES = (
+    b"a\"b\\c\n\x01\x7f", "höhe-距離".encode("utf-8"), b"\xff\xc3\xe2\x82", b"<&]]>", b"\xed\xa0\x80",
+    b"\xf4\x90\x80\x80", b"\xef\xbf\xbe", b"\xc2\x9b31m\x1b[31m", b"long" * 50,
+)
+
+
 def names_of_any_bytes(tool: Tool) -> None:
     """Objects and pictures are whole whatever a file is called, and no name steers the terminal."""
-    for name in (b"a\"b\\c\n\x01\x7f", "höhe-距離".encode("utf-8"), b"\xff\xc3\xe2\x82", b"<&]]>",
-                 b"\xed\xa0\x80", b"\xf4\x90\x80\x80", b"\xef\xbf\xbe", b"\xc2\x9b31m\x1b[31m", b"long" * 50):
+    for name in ODD_NAMES:
         done = tool.run_bytes(b"judge", name, b"1", b"--json")
         expect(json.loads(done.stdout.decode("utf-8"))["status"] == 3, f"the object for {name!r}", done)
         for text in (done.stdout, tool.run_bytes(b"judge", name, b"1").stderr):
@@ -1319,6 +1614,24 @@ def names_of_any_bytes(tool: Tool) -> None:
         expect(done.returncode == 0, f"a picture of {name!r}", done)
         lines = xml.etree.ElementTree.parse("picture.svg").iter("{http://www.w3.org/2000/svg}text")
         expect(max(len(line.text or "") for line in lines) < 50, f"a picture that has no room for {name!r}")
+
+
+def two_names_of_any_bytes(tool: Tool) -> None:
+    """The same of two images: a refusal that names one, and a picture that has both names."""
+    for name in ODD_NAMES:
+        with open(name, "wb") as file:
+            file.write(FILES["p6"])
+        done = tool.run_bytes(b"diff", b"p2", name)
+        controls = re.findall("[\0-\x1f\x7f-\x9f]", done.stderr.decode("utf-8"))
+        expect(done.returncode == 1 and controls == ["\n"] * 3, f"a refusal of {name!r}", done)
+        told = json.loads(tool.run_bytes(b"diff", b"p2", name, b"--json").stdout.decode("utf-8"))
+        expect(told["image"] == "second" and told["status"] == 1, f"the object for {name!r}: {told}")
+        with open(name, "wb") as file:
+            file.write(FILES["p2"])
+        done = tool.run_bytes(b"diff", name, name, b"--svg", b"picture.svg")
+        expect(done.returncode == 0, f"a picture of {name!r}", done)
+        lines = xml.etree.ElementTree.parse("picture.svg").iter("{http://www.w3.org/2000/svg}text")
+        expect(max(len(line.text or "") for line in lines) < 50, f"a picture that has no room for {name!r} twice")
 
 
 def long_images(tool: Tool) -> None:
@@ -1368,9 +1681,11 @@ CHECKS: Tuple[Callable[[Tool], None], ...] = (
     none_stated, none_stated_in_json, not_checked, true_sum_of_0, unknown_told, unknown_is_kept,
     sent_in_pieces, sent_from_files, wrong_lengths, kinds_of_input, killed_on_the_way, faults_on_the_way,
     shown_from_pipes, shown_from_files, told_on_terminals,
+    compared_as_the_reference, refused_as_the_reference, told_of_refusals, compared_vast, compared_mixed,
+    compared_in_svg, compared_at_length, no_memory,
     corrupted_slots, flags_shown, old_records, other_lengths, old_made_new,
-    help_and_version, same_words, not_printed, same_in_json, as_the_reference, names_of_any_bytes, long_images,
-    mixed_cells,
+    help_and_version, same_words, not_printed, same_in_json, as_the_reference, names_of_any_bytes,
+    two_names_of_any_bytes, long_images, mixed_cells,
 )
 
 

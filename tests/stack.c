@@ -26,7 +26,10 @@
 
 /* What is lent to the calls, and what the last one returned. */
 static uint8_t flat[BLOCKS * BLOCK], image[ROOM], partition[BLOCKS * BLOCK], pass[TARPAULARK_PASS];
-static uint8_t record[TARPAULARK_RECORD];
+static uint8_t other[ROOM], record[TARPAULARK_RECORD];
+static uint32_t runs[BLOCKS * TARPAULARK_RUN];
+static size_t other_len, runs_len = BLOCKS * TARPAULARK_RUN;
+static bool other_first;
 static size_t image_len, told_len, flat_len = sizeof flat, partition_len = sizeof partition, room = ROOM;
 static size_t piece_at, piece_len, chunk_at;
 static uint32_t block = BLOCK, slot, number;
@@ -55,6 +58,14 @@ static void store(void)
 static void store_limited(void)
 {
     got(tarpaulark_store_limited(image, image_len, partition, sizeof partition, 3, answer));
+}
+
+static void compare(void)
+{
+    if (other_first)
+        got(tarpaulark_compare(other, other_len, image, image_len, runs, runs_len, answer));
+    else
+        got(tarpaulark_compare(image, image_len, other, other_len, runs, runs_len, answer));
 }
 
 static void write_image(void)
@@ -147,6 +158,7 @@ static struct function {
     {"judge", judge, false, 0},
     {"store", store, false, 0},
     {"store_limited", store_limited, false, 0},
+    {"compare", compare, false, 0},
     {"write", write_image, false, 0},
     {"header", header, false, 0},
     {"chunk", chunk, false, 0},
@@ -218,13 +230,35 @@ static void put32(size_t at, uint32_t value)
 #define RAW (12 + 2 * BLOCK)
 static const size_t starts[] = {28, 28 + RAW, 44 + RAW, 56 + RAW, 56 + 2 * RAW};
 
-/* Fill chunks of zeros are turned into don't care, without their word, and into unknown; the checksum stays. */
-static void make_image(void)
+/* The bytes of those chunks, zeros for don't care and unknown. */
+static void make_flat(void)
 {
     memset(flat, 0, sizeof flat);
     for (size_t i = 0; i < 2 * BLOCK; i++)
         flat[i] = flat[6 * BLOCK + i] = (uint8_t)rand();
     memset(flat + 2 * BLOCK, 0xA5, 2 * BLOCK);
+}
+
+/* Changes the flat bytes, or changes them back: the last byte of a block that is raw, and of one that is fill. */
+static void change_flat(void)
+{
+    flat[2 * BLOCK - 1] ^= 1;
+    flat[4 * BLOCK - 1] ^= 1;
+}
+
+/* The other image, of the flat bytes in blocks of a size. */
+static void make_other(uint32_t size)
+{
+    block = size;
+    measure(write_image);
+    block = BLOCK;
+    other_len = answer[TARPAULARK_LENGTH];
+    memcpy(other, image, other_len);
+}
+
+/* Fill chunks of zeros are turned into don't care, without their word, and into unknown; the checksum stays. */
+static void make_image(void)
+{
     measure(write_image);
     image_len = answer[TARPAULARK_LENGTH];
     image[starts[2]] = 0xC3;
@@ -251,11 +285,21 @@ static void run_passes(size_t step)
     run_pass(store_piece, store_finish, step);
 }
 
+/* The image and the other one, in both orders. */
+static void run_compare(void)
+{
+    other_first = false;
+    measure(compare);
+    other_first = true;
+    measure(compare);
+}
+
 static void run_whole(void)
 {
     measure(judge);
     measure(store);
     measure(store_limited);
+    run_compare();
     measure(header);
     for (size_t i = 0; i < sizeof starts / sizeof starts[0]; i++) {
         chunk_at = starts[i];
@@ -321,10 +365,30 @@ static void try_image(void)
 /* The image as it was made, and stating no checksum. */
 static void try_sparse(void)
 {
+    make_flat();
+    change_flat();
+    make_other(BLOCK);
+    change_flat();
     make_image();
     try_image();
     put32(24, 0);
     try_image();
+}
+
+/* Two images in space for any number of runs; an image and itself; and one of other geometry. */
+static void try_compare(void)
+{
+    for (runs_len = 0; runs_len <= BLOCKS * TARPAULARK_RUN; runs_len++)
+        run_compare();
+    runs_len = BLOCKS * TARPAULARK_RUN;
+    expect(number == 0 && answer[TARPAULARK_RUNS] > 3, "the images are not compared");
+    memcpy(other, image, image_len);
+    other_len = image_len;
+    run_compare();
+    expect(number == 0 && answer[TARPAULARK_RUNS] == 4, "an image and itself are not compared");
+    make_other(BLOCK / 2);
+    make_image();
+    run_compare();
 }
 
 static void try_write(void)
@@ -403,7 +467,7 @@ static void try_slots(void)
 /* Whether the calls got every refusal that the header names, but for 28. */
 static bool all_met(void)
 {
-    static const uint8_t spans[][2] = {{0, 16}, {21, 27}, {31, 33}};
+    static const uint8_t spans[][2] = {{0, 18}, {21, 27}, {31, 33}};
     bool all = true;
 
     for (size_t i = 0; i < sizeof spans / sizeof spans[0]; i++)
@@ -439,6 +503,7 @@ int main(void)
 
     empty = depth_of(nothing);
     try_sparse();
+    try_compare();
     try_write();
     try_boot();
     try_slots();

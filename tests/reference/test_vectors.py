@@ -12,6 +12,7 @@ import build
 import cases_boot
 import cases_common
 import cases_slots
+import compare
 import crc
 import fields
 import slots
@@ -19,14 +20,18 @@ import sparse
 import store
 import vectors
 import writer
+from cases_compare import Case
 from passes import Answer, GoingOn
 from slots import Record, Slot
+from test_compare import cases_in, has_few_blocks, slow_answer
 from test_passes import History
 
 LARGEST_IMAGE = 65536
 LARGEST_STORED_IMAGE = 8192
 LARGEST_PARTITION = 4096
 LARGEST_WRITTEN = 69632
+LARGEST_COMPARED_IMAGE = 4096
+MOST_NUMBERS = 96
 LARGEST_OUTPUT = 450_000
 RECORD = 21
 RECORD_SLOT = 5
@@ -231,6 +236,25 @@ def lines_of_steps(read: Steps) -> Callable[[bytes], Lines]:
     return lines
 
 
+def compare_values(case: Case) -> Tuple[int, ...]:
+    """The answer and the space after it, worked out block by block where they are few."""
+    assert max(len(case.first), len(case.second)) <= LARGEST_COMPARED_IMAGE
+    assert case.numbers <= MOST_NUMBERS
+    answer = slow_answer(*case) if has_few_blocks(case) else compare.compare(*case)
+    space = [11 + 5 * i for i in range(case.numbers)]
+    if isinstance(answer, compare.Refusal):
+        return answer.number, answer.place, answer.image, 0, *space
+    numbers = [number for run in answer.runs for number in run]
+    return 0, 0, 0, len(answer.runs), *numbers, *space[len(numbers):]
+
+
+def compare_lines(data: bytes) -> Lines:
+    cases = cases_in(data)
+    for at in range(0, len(cases), 16):
+        found = [value for case in cases[at:at + 16] for value in compare_values(case)]
+        yield (crc.checksum(struct.pack(f"<{len(found)}I", *found)),)
+
+
 READERS: Dict[str, Callable[[bytes], Lines]] = {
     "crc": crc_lines,
     "fields": field_lines,
@@ -241,6 +265,7 @@ READERS: Dict[str, Callable[[bytes], Lines]] = {
     "store": lines_of_steps(store_values),
     "passes": lines_of_steps(pass_values),
     "write": write_lines,
+    "compare": compare_lines,
 }
 
 

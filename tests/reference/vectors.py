@@ -12,7 +12,7 @@ Each group is one file, data/GROUP.bin, of at most 262,144 bytes: its cases,
 one directly after the other, up to the end of the file.  All numbers are
 unsigned, low byte first; u8, u32 and u64 have 1, 4 and 8 bytes.  Nothing is
 aligned.  The program takes the groups in the order of GROUPS below and prints
-for each case (for each block of them in `slotsum`) one line:
+for each case (for each block of them in `slotsum` and `compare`) one line:
 
     GROUP INDEX VALUE VALUE ...
 
@@ -110,6 +110,17 @@ write    case:  block size u32, length u32 (at most 69,632), flat bytes in the
          The output has `length` bytes, byte i being (11 + 5 * i) % 256 at first.
          values: NUMBER of the refusal or 0; the image's LENGTH, 0 when refused;
                 the CHECKSUM of the whole output after.
+
+compare  case:  first length u32, second length u32, numbers u32 (at most 96), the
+                bytes of the first image, those of the second (at most 4,096 each).
+                One line for each block of 16 cases, the last block being shorter
+                when they do not come out even.
+         The lent space has so many `numbers` of 32 bits, number i being 11 + 5 * i
+                at first.
+         values: CHECKSUM of these, 4 bytes each, low byte first, for each case of
+                the block in turn: NUMBER of the refusal or 0; its PLACE, or 0; the
+                IMAGE that it is of, 1, 2, or 0; how many RUNS, 0 when refused; then
+                every number of the space after.
 """
 
 import argparse
@@ -119,6 +130,7 @@ import sys
 from typing import Callable, Dict, List, Sequence, Tuple
 
 import cases_boot
+import cases_compare
 import cases_crc
 import cases_fields
 import cases_passes
@@ -141,6 +153,7 @@ GROUPS: Tuple[Tuple[str, Callable[[random.Random], Group]], ...] = (
     ("store", cases_store.group),
     ("passes", cases_passes.group),
     ("write", cases_write.group),
+    ("compare", cases_compare.group),
 )
 
 

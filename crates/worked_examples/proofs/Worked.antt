@@ -1,4 +1,4 @@
--- The worked examples P1 to P14, those of request 4 and the lister's texts, computed together: every call of the table gives back what its row says.
+-- The worked examples P1 to P14, those of requests 4 and 5 and the lister's texts, computed together: every call of the table gives back what its row says.
 -- Assumes nothing.
 use mathlib.Core.Path.{refl}
 use lib.Count.{ones, onesIn}
@@ -22,6 +22,10 @@ use Rattle.sparse_write_rules.specs.Runs.{runs}
 use Rattle.sparse_write_rules.specs.Kinds.{allEqual, storedKind}
 use Rattle.sparse_write_rules.specs.Encode.{chunkHeader, chunk, chunks, version, header, image, encode}
 use Rattle.sparse_write_rules.specs.Write as write
+use Rattle.sparse_blocks_rules.specs.Blocks.{blockFrom, stretch, blocksOf, blocksFound, found, blocks}
+use Rattle.sparse_blocks_rules.specs.Same.{alike}
+use Rattle.sparse_blocks_rules.specs.Pairs.{each, pairAnswer, refusedImage}
+use Rattle.sparse_diff_rules.specs.Diff as diff
 use Rattle.text_rules.specs.Words.{digitsUpTo, decimal, labelled}
 use Rattle.sparse_list_rules.specs.Lines.{refusedLine, headerLine, kindWord, chunkLine, lastLine}
 use Rattle.sparse_list_rules.specs.Listing.{chunkLines, listingOf, listing}
@@ -29,5 +33,5 @@ use Rattle.worked_examples.specs.Calls.{perform}
 use Rattle.worked_examples.specs.Table.{Worked}
 
 pub worked : Worked
-unfolding perform numberAt ones onesIn bit steps byteStep crcFrom crc32 slotsValid valid firstFrom startOf sectionsOf rowOf boot.headTests boot.sectionTests boot.answer headerTests kindOf sizeRight chunkTests chunkAt reading endTests walk cellsBy cellsOf cells zeroed checksumOf blocksWhere sumTests summed structure judged effectOf effect judge.answerFor judge.answer store blockCells blocksFrom flatBlocks runs allEqual storedKind packed chunkHeader chunk chunks version header image encode write.flatImage write.writeTests write.answer write.output listing listingOf labelled refusedLine headerLine chunkLine chunkLines lastLine digitsUpTo decimal kindWord
+unfolding perform numberAt ones onesIn bit steps byteStep crcFrom crc32 slotsValid valid firstFrom startOf sectionsOf rowOf boot.headTests boot.sectionTests boot.answer headerTests kindOf sizeRight chunkTests chunkAt reading endTests walk cellsBy cellsOf cells zeroed checksumOf blocksWhere sumTests summed structure judged effectOf effect judge.answerFor judge.answer store blockCells blocksFrom flatBlocks runs allEqual storedKind packed chunkHeader chunk chunks version header image encode write.flatImage write.writeTests write.answer write.output blockFrom stretch blocksOf blocksFound found blocks alike each pairAnswer refusedImage diff.changes diff.diff diff.numbers diff.answer diff.listed listing listingOf labelled refusedLine headerLine chunkLine chunkLines lastLine digitsUpTo decimal kindWord
 worked = refl

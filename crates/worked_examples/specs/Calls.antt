@@ -13,23 +13,27 @@ use Rattle.sparse_rules.specs.declared.Counts.{Counts}
 use Rattle.sparse_rules.specs.Answers as judge
 use Rattle.sparse_store_rules.specs.Store as store
 use Rattle.sparse_write_rules.specs.Write as write
+use Rattle.sparse_blocks_rules.specs.Pairs.{refusedImage}
+use Rattle.sparse_diff_rules.specs.Diff as diff
 use Rattle.sparse_list_rules.specs.Listing.{listing}
 
--- a call: an image stored on what a partition holds, flat bytes written at a block size into what an output holds, a boot image located, a slot record started, an image listed
+-- a call: an image stored on what a partition holds, flat bytes written at a block size into what an output holds, a boot image located, a slot record started, an image listed, two images compared into what a space holds
 pub data Call : Type 0 where
   stores : List ℕ → List ℕ → Call
   writes : List ℕ → ℕ → List ℕ → Call
   locates : List ℕ → Call
   starts : Record → Call
   lists : List ℕ → Call
+  compares : List ℕ → List ℕ → List ℕ → Call
 
--- what comes back: the answer, and the contents of what was lent
+-- what comes back: the answer, for two images also the one that a refusal is of, and the contents of what was lent
 pub data Result : Type 0 where
   stored : Answer Counts → List ℕ → Result
   written : Answer ℕ → List ℕ → Result
   located : Answer Layout → Result
   started : Change → Result
   listed : List ℕ → Result
+  compared : Answer ℕ → ℕ → List ℕ → Result
 
 -- what a call gives back
 unfoldable pub perform : Call → Result
@@ -38,6 +42,7 @@ perform (writes d b out) = written (write.answer d b (length out)) (write.output
 perform (locates s) = located (boot.answer s)
 perform (starts r) = started (startOf r)
 perform (lists s) = listed (listing s)
+perform (compares s t space) = compared (diff.answer s t (length space)) (refusedImage s t) (diff.listed s t space)
 
 -- a row of the table: a call, and what must come back
 pub record Row : Type 0 where

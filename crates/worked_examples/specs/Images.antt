@@ -60,6 +60,21 @@ flatImage =
     fileHeader 8 2 2 0xFFFFFFFF
     ++ (chunkHeader 0xCAC1 1 20 ++ (replicate 4 0xFF ++ (replicate 4 0 ++ (chunkHeader 0xCAC2 1 16 ++ replicate 4 0))))
 
+-- request 5: an image of six blocks of 4 bytes that writes blocks 1, 3, 4 and 5, all raw
+abbrev pub firstOfTwo : List ℕ
+firstOfTwo =
+    fileHeader 4 6 4 0
+    ++ (chunkHeader 0xCAC3 1 12
+    ++ (chunkHeader 0xCAC1 1 16 ++ (upFrom 1 4 ++ (chunkHeader 0xCAC5 1 12 ++ (chunkHeader 0xCAC1 3 24 ++ (replicate 8 0xFF ++ upFrom 1 4))))))
+
+-- and one that writes blocks 2 to 5: 2 filled with zeros, 3 and 4 filled with what the first has there raw, 5 raw with other bytes in the end
+abbrev pub secondOfTwo : List ℕ
+secondOfTwo =
+    fileHeader 4 6 4 0
+    ++ (chunkHeader 0xCAC3 2 12
+    ++ (chunkHeader 0xCAC2 1 16
+    ++ (replicate 4 0 ++ (chunkHeader 0xCAC2 2 16 ++ (replicate 4 0xFF ++ (chunkHeader 0xCAC1 1 16 ++ (upFrom 1 3 ++ (5 ∷ []))))))))
+
 -- P10: "version 3, kernel 4,097, ramdisk 1", of so many bytes
 abbrev pub boot3 : ℕ → List ℕ
 boot3 n =

@@ -8,8 +8,8 @@ use lib.ListN.{replicate}
 use Rattle.rules.specs.Answer.{accepted, refused}
 use Rattle.slot_rules.specs.Answers as slots
 use Rattle.text_rules.specs.Words.{ascii}
-use Rattle.worked_examples.specs.Calls.{Row, perform, stores, writes, locates, starts, lists, stored, written, located, started, listed}
-use Rattle.worked_examples.specs.Images.{emptyImage, twoChunks, p2, p7, counts, upFrom, flat, flatImage, boot3, boot2, section, none, layout, slot, corruptedSlot, two}
+use Rattle.worked_examples.specs.Calls.{Row, perform, stores, writes, locates, starts, lists, compares, stored, written, located, started, listed, compared}
+use Rattle.worked_examples.specs.Images.{emptyImage, twoChunks, p2, p7, counts, upFrom, flat, flatImage, firstOfTwo, secondOfTwo, boot3, boot2, section, none, layout, slot, corruptedSlot, two}
 
 -- P1: "writing 0 bytes at block size 4,096"
 abbrev pub row1 : Row
@@ -135,10 +135,30 @@ rowListedUnknown =
       result = listed (ascii "block 4 total 3 chunks 2\n0 fill 1\n1 unknown 2\nok written 1 skipped 0 unknown 2\n");
     }
 
--- P1 to P14, two of request 4, and the lister's texts
+-- request 5: "neither image writes, only the first, only the second, both and equal, both and different", and nothing past the runs
+abbrev pub rowCompared : Row
+rowCompared =
+    record {
+      call = compares firstOfTwo secondOfTwo (replicate 16 7);
+      result = compared (accepted 5) 0 (0 ∷ 1 ∷ 0 ∷ 1 ∷ 1 ∷ 1 ∷ 2 ∷ 1 ∷ 2 ∷ 3 ∷ 2 ∷ 3 ∷ 5 ∷ 1 ∷ 4 ∷ 7 ∷ []);
+    }
+
+-- "18 exactly when the list needs more than the space": one number short
+abbrev pub rowComparedShort : Row
+rowComparedShort = record { call = compares firstOfTwo secondOfTwo (replicate 14 7); result = compared (refused 18 0) 0 (replicate 14 7) }
+
+-- "17 geometry differs"
+abbrev pub rowComparedGeometry : Row
+rowComparedGeometry = record { call = compares p2 flatImage (replicate 9 7); result = compared (refused 17 0) 0 (replicate 9 7) }
+
+-- before it "the second's own": P9's image and one byte more
+abbrev pub rowComparedSecond : Row
+rowComparedSecond = record { call = compares p2 (flatImage ++ (0 ∷ [])) (replicate 9 7); result = compared (refused 10 64) 2 (replicate 9 7) }
+
+-- P1 to P14, two of request 4, the lister's texts, and four of request 5
 abbrev pub table : List Row
 table =
-    row1 ∷ row2 ∷ row3 ∷ row4 ∷ row5 ∷ row6 ∷ row7 ∷ row8 ∷ row8One ∷ row9 ∷ row9Short ∷ row10 ∷ row10Short ∷ row11 ∷ row12 ∷ row13 ∷ row14 ∷ rowCorrupted ∷ rowNoCandidate ∷ rowListed ∷ rowListedUnknown ∷ []
+    row1 ∷ row2 ∷ row3 ∷ row4 ∷ row5 ∷ row6 ∷ row7 ∷ row8 ∷ row8One ∷ row9 ∷ row9Short ∷ row10 ∷ row10Short ∷ row11 ∷ row12 ∷ row13 ∷ row14 ∷ rowCorrupted ∷ rowNoCandidate ∷ rowListed ∷ rowListedUnknown ∷ rowCompared ∷ rowComparedShort ∷ rowComparedGeometry ∷ rowComparedSecond ∷ []
 
 -- every call of the table gives back what its row says
 abbrev pub Worked : Type 0
