@@ -141,6 +141,18 @@ try_theirs() {
     [ $has_simg2img = 0 ] || expect agrees "simg2img of img2simg's image, $1" stored_as_made "$1.theirs" "$length"
 }
 
+# The runs between img2simg's images of two flat files of one length are those of their blocks: equal or different.
+told_as_flat() {
+    "$tool" diff "$1.theirs" "$2.theirs" --json | python3 -c '
+import itertools, json, sys
+first, second = (open(name, "rb").read() for name in sys.argv[1:3])
+size = int(sys.argv[3])
+kinds = ["equal" if first[at:at + size] == second[at:at + size] else "different" for at in range(0, len(first), size)]
+told = [(run["kind"], run["blocks"]) for run in json.load(sys.stdin)["list"]]
+assert told == [(kind, len(list(group))) for kind, group in itertools.groupby(kinds)], told
+' "$1" "$2" "$3"
+}
+
 # Files for the sections that mkbootimg takes; an empty one is a section that is left out.
 make_sections() {
     local name
@@ -253,6 +265,9 @@ if [ $((has_simg2img + has_img2simg)) -gt 0 ]; then
             if [ $has_img2simg = 1 ] && [ "$block" -ge 1024 ]; then
                 try_theirs "$flat" "$block"
             fi
+        done
+        [ $has_img2simg = 0 ] || [ "$block" -lt 1024 ] || for flat in random fill mixed; do
+            expect agrees "diff of img2simg's images, $flat and mixed, $block" told_as_flat "$flat.$block" "mixed.$block" "$block"
         done
     done
 fi

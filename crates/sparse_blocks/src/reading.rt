@@ -2,7 +2,6 @@
 // and none is made.
 ghost use mathlib.Core.Path.{_≡_};
 ghost use Prim.Native.Nat.{_+_, min};
-ghost use lib.ListN.{length};
 ghost use Rattle.sparse_rules.specs.Counts.{writes};
 ghost use Rattle.sparse_blocks_rules.specs.Blocks.{pace};
 ghost use Rattle.sparse_blocks_rules.specs.Reading.{nothing, less, passedBy, opened};

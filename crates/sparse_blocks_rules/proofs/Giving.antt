@@ -3,7 +3,7 @@
 use mathlib.Core.Path.{_≡_, refl, sym, ap, ap₂, _∙_}
 use mathlib.Core.Option.{Option, none, some}
 use mathlib.Core.List.{List, [], _∷_, _++_, map, append-assoc}
-use Prim.Native.Nat.{ℕ, zero, suc, _+_, _*_, _%_, _≤_, _<_}
+use Prim.Native.Nat.{ℕ, zero, suc, _+_, _*_, _%_, _≤_}
 use native.Mathlib.Nat.{suc-mul}
 use native.Mathlib.Omega.{arith}
 use lib.ListN.{length, replicate, length-append, replicate-append-replicate}
@@ -12,7 +12,7 @@ use Rattle.fields_rules.specs.Number.{Bytes}
 use Rattle.sparse_rules.specs.declared.Kind.{Kind}
 use Rattle.sparse_rules.specs.declared.Kind.the-variants.{Raw, Fill, DontCare, Unknown}
 use Rattle.sparse_rules.specs.declared.Chunk.{Chunk}
-use Rattle.sparse_rules.specs.Header.{blockSize, totalBlocks}
+use Rattle.sparse_rules.specs.Header.{blockSize}
 use Rattle.sparse_rules.specs.Cells.{tab, rawByte, fillByte, cellsBy, cells}
 use Rattle.sparse_rules.specs.Judge.{judged, effect}
 use Rattle.sparse_rules.proofs.Counting.{blocksIn, three-parts}

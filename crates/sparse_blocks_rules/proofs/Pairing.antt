@@ -1,12 +1,12 @@
 -- The refusals of two images, one by one.
 -- Assumes nothing.
-use mathlib.Core.Path.{_≡_, refl, sym, ap, _∙_}
+use mathlib.Core.Path.{_≡_, refl, sym}
 use mathlib.Core.Bool.{Bool, true, false, not, _&&_}
 use mathlib.Core.List.{List, [], _∷_}
 use Prim.Native.Nat.{ℕ, _*_, _≤_}
 use native.Mathlib.Omega.{arith}
 use borrow.Author.Tests.{eqb-true, eq-eqb, le-ltb}
-use lib.Dec.{eqb, ltb}
+use lib.Dec.{eqb}
 use lib.ListN.{length}
 use Rattle.rules.specs.First.{first}
 use Rattle.rules.specs.Answer.{Answer, accepted, refused, unless, onward}
@@ -21,7 +21,7 @@ use Rattle.sparse_rules.specs.Judge.{judged}
 use Rattle.sparse_rules.specs.Answers as judge
 use Rattle.sparse_rules.proofs.Image.{answer-accepted, answer-refused}
 use Rattle.sparse_blocks_rules.specs.Blocks.{needed, found}
-use Rattle.sparse_blocks_rules.specs.Pairs.{sameGeometry, pairTests, pairAnswer, imageBy, refusedImage, Accepted, Matched}
+use Rattle.sparse_blocks_rules.specs.Pairs.{sameGeometry, pairAnswer, refusedImage, Accepted, Matched}
 use Rattle.sparse_blocks_rules.specs.Theorems.{Judged, Ordered}
 use Rattle.sparse_blocks_rules.proofs.Giving.{gives}
 

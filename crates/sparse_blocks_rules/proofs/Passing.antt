@@ -2,14 +2,14 @@
 -- Assumes nothing.
 use mathlib.Core.Path.{_≡_, refl, sym, ap, _∙_}
 use mathlib.Core.Bool.{Bool, true, false, cond}
-use mathlib.Core.List.{List, [], _∷_, _++_}
-use Prim.Native.Nat.{ℕ, zero, suc, _+_, _-_, _*_, _%_, min, _≤_, _<_}
+use mathlib.Core.List.{List, [], _++_}
+use Prim.Native.Nat.{ℕ, zero, suc, _+_, _-_, _*_, _≤_, _<_}
 use native.Mathlib.Nat.{zero-lt-suc, min-eq-left}
 use native.Mathlib.Numerals.{sub-one}
 use native.Mathlib.Omega.{arith}
 use borrow.Author.Tests.{ltb-true, ltb-false}
 use lib.Dec.{ltb}
-use lib.ListN.{length, drop, drop-of-length-le}
+use lib.ListN.{length, drop}
 use lib.Seq.{drop-append-le, drop-append-add}
 use Rattle.rules.specs.Answer.{accepted, refused}
 use Rattle.sparse_rules.specs.declared.Header.{Header}
@@ -27,8 +27,8 @@ use Rattle.sparse_rules.proofs.Image.{chunks-walked}
 use Rattle.sparse_write_rules.specs.Blocks.{Block}
 use Rattle.sparse_write_rules.proofs.Runs.{split-blocks}
 use Rattle.sparse_blocks_rules.specs.declared.Reader.{Reader}
-use Rattle.sparse_blocks_rules.specs.Blocks.{pace, stretch, blocksOf, blocksFound, needed, found, blocks}
-use Rattle.sparse_blocks_rules.specs.Reading.{standing, nothing, less, readOr, passed, passedBy, opened}
+use Rattle.sparse_blocks_rules.specs.Blocks.{pace, stretch, blocksOf, needed, found, blocks}
+use Rattle.sparse_blocks_rules.specs.Reading.{standing, nothing, less, readOr, passed, opened}
 use Rattle.sparse_blocks_rules.specs.Pairs.{Accepted}
 use Rattle.sparse_blocks_rules.specs.Beside.{remaining, Reads, Ready}
 use Rattle.sparse_blocks_rules.proofs.Stretches.{length-stretch, stretch-drop, stretch-none, blocks-accepted, blocks-cons, blocks-nil}

@@ -1,9 +1,12 @@
 -- Runs put into space one after the other.
 -- Assumes nothing.
-use mathlib.Core.Path.{_≡_, refl, sym, ap, _∙_}
-use mathlib.Core.List.{List, [], _∷_, _++_}
-use Prim.Native.Nat.{ℕ, zero, suc, _+_, _*_, _≤_, _<_}
+use mathlib.Core.Path.{_≡_, refl, sym, _∙_}
+use mathlib.Core.Bool.{Bool, true}
+use mathlib.Core.List.{List, [], _∷_}
+use Prim.Native.Nat.{ℕ, suc, _+_, _*_, _≤_, _<_}
 use native.Mathlib.Omega.{arith}
+use borrow.Author.Tests.{leb-true}
+use lib.Dec.{leb}
 use lib.ListN.{length, set}
 use lib.Seq.{sets, length-sets}
 use Rattle.fields_rules.specs.Number.{placed}
@@ -39,7 +42,11 @@ laid-none space n first (r ∷ rs) h =
     let put : placed space (3 * n) (runNumbers first r) ≡ space = placed-none space (3 * n) (runNumbers first r) (omega arith) in
     rw put (laid-none space (suc n) (first + r .many) rs h)
 
--- three numbers that have room, one after the other
+-- three numbers have room where the test says so
+pub room-three : (at : ℕ) (space : List ℕ) {x : Bool} → x ≡ leb (at + 3) (length space) → x ≡ true → at + 3 ≤ length space
+room-three at space e h = leb-true (at + 3) (length space) (sym e ∙ h)
+
+-- and are put one after the other
 pub put-three : (space : List ℕ) (at x y z : ℕ) → at + 3 ≤ length space
     → set (set (set space at x) (at + 1) y) (at + 2) z ≡ placed space at (x ∷ y ∷ z ∷ [])
 put-three space at x y z h =

@@ -1,7 +1,7 @@
 -- What the list of changes says of two images, and where it stands in the space.
 -- Assumes nothing.
 use mathlib.Core.Path.{_≡_, refl, sym, ap, _∙_}
-use mathlib.Core.Bool.{Bool, true, false, cond}
+use mathlib.Core.Bool.{Bool, true, false}
 use mathlib.Core.List.{List, [], _∷_, _++_}
 use Prim.Native.Nat.{ℕ, zero, suc, _+_, _-_, _*_, _≤_, _<_}
 use native.Mathlib.Nat.{zero-lt-suc, not-suc-le-zero, le-of-suc-le-suc}
@@ -14,19 +14,18 @@ use Rattle.rules.specs.First.{first}
 use Rattle.rules.specs.Answer.{Answer, accepted, refused}
 use Rattle.rules.proofs.First.{first-none}
 use Rattle.rules.proofs.Answer.{unless-accepted, unless-number, onward-number}
-use Rattle.sparse_rules.specs.Header.{totalBlocks}
 use Rattle.sparse_rules.proofs.Theorems as images
 use Rattle.sparse_write_rules.specs.Runs.{Run, spread}
 use Rattle.sparse_write_rules.proofs.Runs.{tells-numbers, longest, spread-runs}
 use Rattle.sparse_blocks_rules.specs.Blocks.{needed, found, blocks}
 use Rattle.sparse_blocks_rules.specs.Same.{alike}
-use Rattle.sparse_blocks_rules.specs.Pairs.{pairAnswer, pairTests, leftBy, Matched}
+use Rattle.sparse_blocks_rules.specs.Pairs.{pairAnswer, pairTests}
 use Rattle.sparse_blocks_rules.proofs.Comparing.{alike-true, alike-refl}
 use Rattle.sparse_blocks_rules.proofs.Giving.{gives}
 use Rattle.sparse_blocks_rules.proofs.SideBySide.{length-each, each-at}
 use Rattle.sparse_blocks_rules.proofs.Pairing.{pair-accepted, pair-passed}
-use Rattle.sparse_diff_rules.specs.Diff.{change, changes, diff, runNumbers, numbers, spaceTests, answer, listed}
-use Rattle.sparse_diff_rules.specs.Theorems.{Listings, Kinds, Numbered, ThreeNumbers, Answered, Kept, RefusalNumbers}
+use Rattle.sparse_diff_rules.specs.Diff.{change, changes, diff, numbers, spaceTests, answer, listed}
+use Rattle.sparse_diff_rules.specs.Theorems.{Listings, Kinds, ThreeNumbers, Answered, Kept, RefusalNumbers}
 use Rattle.sparse_diff_rules.proofs.Laying.{length-numbers}
 use Rattle.sparse_diff_rules.proofs.Answering.{runs-few, answers-short, answers-listed}
 

@@ -2,7 +2,6 @@
 -- Assumes nothing.
 use mathlib.Core.Path.{sym, _∙_}
 use Prim.Native.Nat.{min}
-use native.Mathlib.Omega.{arith}
 use borrow.Author.Needs.{needs}
 use Rattle.sparse_blocks_rules.proofs.SideBySide.{both-have}
 use Rattle.sparse_diff_rules.proofs.Changes.{min-positive, front-neither, front-first, front-second}

@@ -3,7 +3,6 @@
 use mathlib.Core.Path.{sym, ap, ap₂, _∙_}
 use mathlib.Core.Bool.{Bool, _||_, cond}
 use Prim.Native.Nat.{min}
-use native.Mathlib.Omega.{arith}
 use borrow.Author.Needs.{needs}
 use Rattle.sparse_blocks_rules.proofs.SideBySide.{both-have}
 use Rattle.sparse_diff_rules.proofs.Changes.{min-positive, front-one, front-all}

@@ -1,7 +1,5 @@
 -- `sparse_diff::grow` meets its contract.
 -- Assumes nothing.
-use mathlib.Core.Path.{sym, _∙_}
-use native.Mathlib.Omega.{arith}
 use borrow.Author.Needs.{needs}
 use Rattle.sparse_diff_rules.proofs.Lists.{grows-same, grows-other}
 use Rattle.sparse_diff.proofs.growing.grow.Statement.{statement}

@@ -1,8 +1,7 @@
 -- `sparse_diff::put_run` meets its contract.
 -- Assumes nothing.
-use mathlib.Core.Path.{sym, _∙_}
+use mathlib.Core.Path.{_∙_}
 use native.Mathlib.Nat.{pos-of-ne-zero}
-use native.Mathlib.Omega.{arith}
 use borrow.Author.Needs.{needs}
 use Rattle.sparse_diff_rules.proofs.Lists.{put-none, put-one}
 use Rattle.sparse_diff.proofs.growing.put_run.Statement.{statement}
