@@ -18,8 +18,11 @@ use Rattle.sparse_rules.specs.Cells.{tab, rawByte, fillByte}
 use Rattle.sparse_rules.specs.Counts.{writes}
 use Rattle.sparse_rules.specs.Facts.{Summable, dataBytes}
 use Rattle.sparse_rules.proofs.Cells.{getD-tab, tab-same}
+use Rattle.sparse_write_rules.specs.Runs.{Tells}
 use Rattle.sparse_write_rules.proofs.Runs.{at-least}
 use Rattle.sparse_blocks_rules.specs.Blocks.{blockFrom}
+use Rattle.sparse_write_rules.specs.Blocks.{Block}
+use Rattle.sparse_blocks_rules.specs.Theorems.{Compared}
 use Rattle.sparse_blocks_rules.specs.Same.{alike, sameBytes, repeatsWord, isRaw, sameBlock}
 
 -- ---- lists of bytes
@@ -39,6 +42,10 @@ pub alike-refl : (xs : List ℕ) → alike xs xs ≡ true
 unfolding alike
 alike-refl [] = refl
 alike-refl (x ∷ xs) = rw (eq-eqb x x refl, alike-refl xs)
+
+-- so bytes are told apart
+pub tells-bytes : Tells alike
+tells-bytes = record { sound = alike-true; complete = λ xs ys e. rw (← e) (alike-refl xs) }
 
 -- tables are alike where their entries are the same
 module _ (f g : ℕ → ℕ) (n : ℕ) where
@@ -169,3 +176,17 @@ module _ {s t : List ℕ} {b : ℕ} {x y : Chunk} (least : 4 ≤ b) (v : Summabl
       go true false i j = repeats-alike s t (x .body) (y .body) b least i j
       go false true i j = repeats-alike t s (y .body) (x .body) b least j i ∙ alike-swap (tab (rawByte t (y .body)) 0 b) (tab (fillByte s (x .body)) 0 b)
       go false false i j = words-alike s t (x .body) (y .body) b least i j
+
+some-same : (xs ys : List ℕ) → _≡_ {A = Block} (some xs) (some ys) → xs ≡ ys
+some-same xs ys e = cc
+
+-- the first blocks of two chunks that write are found the same exactly where they are
+pub compared : Compared
+compared s t b x y least v w g h e f =
+    let p = written s b (x .kind) (x .body) e in
+    let q = written t b (y .kind) (y .body) f in
+    let same = block-alike least v w g h e f in
+    record {
+      sound = λ k. p .is ∙ ap some (alike-true (p .bytes) (q .bytes) (sym same ∙ k)) ∙ sym (q .is);
+      complete = λ k. same ∙ tells-bytes .complete (p .bytes) (q .bytes) (some-same (p .bytes) (q .bytes) (sym (p .is) ∙ k ∙ q .is));
+    }

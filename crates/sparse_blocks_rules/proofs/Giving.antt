@@ -23,6 +23,7 @@ use Rattle.sparse_rules.proofs.Theorems.{sums, judged-more}
 use Rattle.sparse_write_rules.specs.Blocks.{Block, cellsOfBlock, blockCells, Fits, AllFit}
 use Rattle.sparse_write_rules.proofs.KindCells.{some-append, raw-split}
 use Rattle.sparse_write_rules.proofs.ImageBytes.{bytes-tab}
+use Rattle.sparse_write_rules.proofs.Theorems.{blocks-injective}
 use Rattle.sparse_blocks_rules.specs.Blocks.{blockFrom, pace, stretch, blocksOf, needed, found, blocks}
 use Rattle.sparse_blocks_rules.specs.Pairs.{Accepted}
 use Rattle.sparse_blocks_rules.specs.Theorems.{Given}
@@ -147,4 +148,7 @@ module _ {s : List ℕ} (a : Accepted s) where
             ∙ sums s (length s) (needed s) (a .ks) judges .total;
         fit = λ small. rw blocks-are (fit-blocksOf s small (blockSize s) (a .ks));
         effects = effect-blocks;
+        only = λ small room h xs f e.
+            let least = accepted-facts s (length s) (needed s) (a .ks) judges .header .block-least in
+            blocks-injective (blockSize s) (omega arith) xs (blocks s) f (rw blocks-are (fit-blocksOf s small (blockSize s) (a .ks))) (sym e ∙ effect-blocks room h);
       }

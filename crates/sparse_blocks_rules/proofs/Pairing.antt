@@ -20,7 +20,7 @@ use Rattle.sparse_rules.specs.Walk.{Finding}
 use Rattle.sparse_rules.specs.Judge.{judged}
 use Rattle.sparse_rules.specs.Answers as judge
 use Rattle.sparse_rules.proofs.Image.{answer-accepted, answer-refused}
-use Rattle.sparse_blocks_rules.specs.Blocks.{needed, found}
+use Rattle.sparse_blocks_rules.specs.Blocks.{needed, found, blocksFound, blocks}
 use Rattle.sparse_blocks_rules.specs.Pairs.{sameGeometry, pairAnswer, refusedImage, Accepted, Matched}
 use Rattle.sparse_blocks_rules.specs.Theorems.{Judged, Ordered}
 use Rattle.sparse_blocks_rules.proofs.Giving.{gives}
@@ -42,9 +42,13 @@ module _ (s : List ℕ) where
   unfolding found judged headerTests
   anywhere room h = rw (le-ltb room (needed s) h, le-ltb (needed s) (needed s) (omega arith))
 
+none-refused : (s : List ℕ) (n place : ℕ) → found s ≡ refused n place → blocks s ≡ []
+unfolding blocks blocksFound
+none-refused s n place e = rw e
+
 -- what is found of an image that is judged as if the partition had room
 pub judged-so : Judged
-judged-so = record { anywhere = anywhere; given = λ s a. gives a }
+judged-so = record { anywhere = anywhere; given = λ s a. gives a; none = none-refused }
 
 -- ---- two images
 

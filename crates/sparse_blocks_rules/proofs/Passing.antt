@@ -31,6 +31,7 @@ use Rattle.sparse_blocks_rules.specs.Blocks.{pace, stretch, blocksOf, ne
 use Rattle.sparse_blocks_rules.specs.Reading.{standing, nothing, less, readOr, passed, opened}
 use Rattle.sparse_blocks_rules.specs.Pairs.{Accepted}
 use Rattle.sparse_blocks_rules.specs.Beside.{remaining, Reads, Ready}
+use Rattle.sparse_blocks_rules.specs.Theorems.{ReaderGives}
 use Rattle.sparse_blocks_rules.proofs.Stretches.{length-stretch, stretch-drop, stretch-none, blocks-accepted, blocks-cons, blocks-nil}
 
 -- a reader past n blocks more
@@ -211,3 +212,10 @@ module _ {s : List ℕ} (a : Accepted s) where
   opens =
       let v = passes s (headerOf s) (headerOf s .chunks) (origin (headerOf s)) nothing 0 start-reads (omega arith) in
       (v .ready, v .rest ∙ start-rest, v .same)
+
+pub reader-gives : ReaderGives
+reader-gives =
+    record {
+      opens = λ s a. let v = opens a in (v .0, v .1);
+      passes = λ s r n w h. let v = passes s (r .header) (r .left) (r .cursor) (r .chunk) n (w .reads) h in (v .ready, v .rest);
+    }

@@ -1,7 +1,7 @@
 -- The turns of the loops: a reader passed on chunk by chunk, and bytes compared one after the other.
 -- Assumes nothing.
-use mathlib.Core.Path.{_≡_, refl, sym, ap, ap₂, _∙_}
-use mathlib.Core.Bool.{Bool, true, false, _&&_}
+use mathlib.Core.Path.{_≡_, refl, sym, ap₂, _∙_}
+use mathlib.Core.Bool.{Bool, true, false, _&&_, and-assoc, and-true}
 use mathlib.Core.List.{List, [], _∷_}
 use Prim.Native.Nat.{ℕ, zero, suc, _+_, _-_, _*_, min, _≤_, _<_}
 use native.Mathlib.Nat.{not-suc-le-zero}
@@ -17,9 +17,8 @@ use Rattle.sparse_rules.specs.declared.Header.{Header}
 use Rattle.sparse_rules.specs.declared.Cursor.{Cursor}
 use Rattle.sparse_rules.specs.declared.Chunk.{Chunk}
 use Rattle.sparse_rules.specs.Chunks.{chunk, reading}
-use Rattle.sparse_rules.specs.Cells.{tab, rawByte, zeroed}
-use Rattle.sparse_rules.proofs.Cells.{zeroed-some, zeroed-raw}
-use Rattle.sparse_rules.proofs.Image.{raw-cells}
+use Rattle.sparse_rules.specs.Cells.{tab, rawByte}
+use Rattle.sparse_write_rules.proofs.KindCells.{raw-part}
 use Rattle.sparse_blocks_rules.specs.Blocks.{pace}
 use Rattle.sparse_blocks_rules.specs.Same.{alike, sameBytes}
 use Rattle.sparse_blocks_rules.specs.Reading.{standing, nothing, less, passed}
@@ -63,14 +62,6 @@ pub record Comparing (xs ys : List ℕ) (same : Bool) (i : ℕ) : Type 0 where
   pub inside : i ≤ length xs
   pub goes : (same && alike (drop i xs) (drop i ys)) ≡ alike xs ys
 
-and-assoc : (a b c : Bool) → ((a && b) && c) ≡ (a && (b && c))
-and-assoc true b c = refl
-and-assoc false b c = refl
-
-and-true : (a : Bool) → a ≡ (a && true)
-and-true true = refl
-and-true false = refl
-
 module _ {xs ys : List ℕ} where
   -- one more
   pub compare-on : {same : Bool} {i : ℕ} → length ys ≡ length xs → i < length xs → Comparing xs ys same i
@@ -93,13 +84,13 @@ module _ {xs ys : List ℕ} where
   compare-done {same} {i} l h w =
       let p : drop i xs ≡ [] = drop-of-length-le xs h in
       let q : drop i ys ≡ [] = drop-of-length-le ys {i = i} (omega arith) in
-      and-true same ∙ sym (ap₂ (λ (u v : List ℕ). same && alike u v) p q) ∙ w .goes
+      sym (and-true same) ∙ sym (ap₂ (λ (u v : List ℕ). same && alike u v) p q) ∙ w .goes
 
 -- n bytes from a place on, as they are handed on
 pub part-is : (s : List ℕ) (i n : ℕ) → i + n ≤ length s → take (i + n - i) (drop i s) ≡ tab (rawByte s i) 0 n
 part-is s i n h =
     let z : i + n - i ≡ n = omega arith in
-    rw z (sym (zeroed-raw s i n h) ∙ ap zeroed (raw-cells s i n) ∙ zeroed-some (tab (rawByte s i) 0 n))
+    rw z (sym (raw-part s i n h))
 
 module _ (s : List ℕ) (i : ℕ) (t : List ℕ) (j n : ℕ) where
   -- bytes that both images have are compared

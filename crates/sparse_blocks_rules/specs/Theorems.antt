@@ -1,17 +1,24 @@
 -- What holds of the blocks of an image, and of the refusals of two.
 -- Assumes nothing.
 use mathlib.Core.Path.{_≡_}
-use mathlib.Core.Bool.{Bool}
-use mathlib.Core.List.{List}
-use Prim.Native.Nat.{ℕ, _≤_}
-use lib.ListN.{length}
+use mathlib.Core.Bool.{Bool, true}
+use mathlib.Core.List.{List, []}
+use Prim.Native.Nat.{ℕ, _≤_, _<_}
+use lib.ListN.{length, drop}
 use Rattle.fields_rules.specs.Number.{Bytes}
 use Rattle.rules.specs.First.{first}
 use Rattle.rules.specs.Answer.{accepted, refused, unless}
 use Rattle.sparse_rules.specs.Header.{blockSize, totalBlocks}
 use Rattle.sparse_rules.specs.Judge.{judged, effect}
-use Rattle.sparse_write_rules.specs.Blocks.{blockCells, AllFit}
-use Rattle.sparse_blocks_rules.specs.Blocks.{needed, found, blocks}
+use Rattle.sparse_rules.specs.declared.Chunk.{Chunk}
+use Rattle.sparse_rules.specs.Counts.{writes}
+use Rattle.sparse_rules.specs.Facts.{Summable}
+use Rattle.sparse_write_rules.specs.Blocks.{Block, blockCells, AllFit}
+use Rattle.sparse_blocks_rules.specs.declared.Reader.{Reader}
+use Rattle.sparse_blocks_rules.specs.Same.{sameBlock}
+use Rattle.sparse_blocks_rules.specs.Reading.{passedBy, opened}
+use Rattle.sparse_blocks_rules.specs.Beside.{remaining, Ready}
+use Rattle.sparse_blocks_rules.specs.Blocks.{blockFrom, needed, found, blocks}
 use Rattle.sparse_blocks_rules.specs.Pairs.{pairAnswer, refusedImage, Accepted, Matched}
 
 -- the blocks of an accepted image
@@ -22,6 +29,9 @@ pub record Given (s : List ℕ) : Type 0 where
   pub fit : Bytes s → AllFit (blockSize s) (blocks s)
   -- they are what the image gives each byte of a partition with room
   pub effects : (room : ℕ) → needed s ≤ room → effect s room ≡ blockCells (blockSize s) (blocks s)
+  -- and no other blocks of that size are
+  pub only : Bytes s → (room : ℕ) → needed s ≤ room → (xs : List Block) → AllFit (blockSize s) xs → effect s room ≡ blockCells (blockSize s) xs
+      → xs ≡ blocks s
 
 -- "judged as if the partition had room"
 pub record Judged : Type 0 where
@@ -29,6 +39,25 @@ pub record Judged : Type 0 where
   pub anywhere : (s : List ℕ) (room : ℕ) → needed s ≤ room → judged s (length s) room ≡ found s
   -- the blocks of every accepted image are what it gives
   pub given : (s : List ℕ) → Accepted s → Given s
+  -- a refused image has none
+  pub none : (s : List ℕ) (n place : ℕ) → found s ≡ refused n place → blocks s ≡ []
+
+-- what a reader of an accepted image gives
+pub record ReaderGives : Type 0 where
+  -- opened, it has all blocks of the image to give
+  pub opens : (s : List ℕ) → Accepted s → Ready s (opened s) × (remaining s (opened s) ≡ blocks s)
+  -- past some blocks of its chunk, those after them
+  pub passes : (s : List ℕ) (r : Reader) (n : ℕ) → Ready s r → n ≤ r .chunk .blocks
+      → Ready s (passedBy s r n) × (remaining s (passedBy s r n) ≡ drop n (remaining s r))
+
+-- the first blocks of two chunks that write, whose data lie in their images, are found the same exactly where they are
+pub record Compares (s t : List ℕ) (b : ℕ) (x y : Chunk) : Type 0 where
+  pub sound : sameBlock s x t y b ≡ true → blockFrom s b (x .kind) (x .body) ≡ blockFrom t b (y .kind) (y .body)
+  pub complete : blockFrom s b (x .kind) (x .body) ≡ blockFrom t b (y .kind) (y .body) → sameBlock s x t y b ≡ true
+
+abbrev pub Compared : Type 0
+Compared = (s t : List ℕ) (b : ℕ) (x y : Chunk) → 4 ≤ b → Summable s b x → Summable t b y → 0 < x .blocks → 0 < y .blocks
+    → writes (x .kind) ≡ true → writes (y .kind) ≡ true → Compares s t b x y
 
 -- which refusal of two images comes, whatever tests follow
 pub record Ordered : Type 0 where

@@ -1,7 +1,6 @@
 -- What the list of changes says of two images, and where it stands in the space.
 -- Assumes nothing.
 use mathlib.Core.Path.{_≡_, refl, sym, ap, _∙_}
-use mathlib.Core.Bool.{Bool, true, false}
 use mathlib.Core.List.{List, [], _∷_, _++_}
 use Prim.Native.Nat.{ℕ, zero, suc, _+_, _-_, _*_, _≤_, _<_}
 use native.Mathlib.Nat.{zero-lt-suc, not-suc-le-zero, le-of-suc-le-suc}
@@ -16,11 +15,11 @@ use Rattle.rules.proofs.First.{first-none}
 use Rattle.rules.proofs.Answer.{unless-accepted, unless-number, onward-number}
 use Rattle.sparse_rules.proofs.Theorems as images
 use Rattle.sparse_write_rules.specs.Runs.{Run, spread}
-use Rattle.sparse_write_rules.proofs.Runs.{tells-numbers, longest, spread-runs}
+use Rattle.sparse_write_rules.proofs.Runs.{tells-numbers, differ, longest, spread-runs}
 use Rattle.sparse_blocks_rules.specs.Blocks.{needed, found, blocks}
 use Rattle.sparse_blocks_rules.specs.Same.{alike}
 use Rattle.sparse_blocks_rules.specs.Pairs.{pairAnswer, pairTests}
-use Rattle.sparse_blocks_rules.proofs.Comparing.{alike-true, alike-refl}
+use Rattle.sparse_blocks_rules.proofs.Comparing.{tells-bytes}
 use Rattle.sparse_blocks_rules.proofs.Giving.{gives}
 use Rattle.sparse_blocks_rules.proofs.SideBySide.{length-each, each-at}
 use Rattle.sparse_blocks_rules.proofs.Pairing.{pair-accepted, pair-passed}
@@ -45,13 +44,6 @@ listings s t m =
       second = gives (m .second);
     }
 
-differs : (xs ys : List ℕ) → (xs ≡ ys → ⊥) → alike xs ys ≡ false
-differs xs ys d = go (alike xs ys) refl
-  where
-    go : (z : Bool) → alike xs ys ≡ z → z ≡ false
-    go true e = absurd (d (alike-true xs ys e))
-    go false e = refl
-
 -- the five kinds
 pub kinds : Kinds
 kinds =
@@ -59,8 +51,8 @@ kinds =
       neither = refl;
       only-first = λ xs. refl;
       only-second = λ ys. refl;
-      equal = λ xs ys e. rw (← e, alike-refl xs);
-      different = λ xs ys d. rw (differs xs ys d);
+      equal = λ xs ys e. rw (tells-bytes .complete xs ys e);
+      different = λ xs ys d. rw (differ alike tells-bytes xs ys d);
     }
 
 -- ---- the numbers
