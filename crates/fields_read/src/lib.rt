@@ -7,7 +7,7 @@ ghost use lib.Dec.{leb};
 ghost use lib.ListN.{length, getD};
 ghost use Rattle.fields_rules.specs.Number.{numberAt};
 
-// Whether n bytes from `at` on lie within a slice of so many.
+// Whether n elements from `at` on lie within a slice of so many.
 pub fn within(len: usize, at: usize, n: usize) -> bool
     ensures { λ r. ⌜ r ≡ leb (at + n) len ⌝ }
 {

@@ -9,4 +9,4 @@ pub use comparing::same_block;
 pub use matching::matched;
 pub use reading::open;
 pub use reading::pass;
-pub use reading::stores;
+pub use reading::writes;

@@ -26,7 +26,7 @@ fn same_geometry(first: &[u8], second: &[u8]) -> bool
     (a.block == b.block) & (a.total == b.total)
 }
 
-// The refusals of two images: the first's own, the second's own, then 17.
+// The refusals of two images: the first's own, the second's own, then 17; the number 0 where they match.
 pub fn matched(first: &[u8], second: &[u8]) -> Paired
     ensures answer { λ r. ⌜ answerOf r ≡ pairAnswer (now (first .entry)) (now (second .entry)) [] 0 ⌝ }
     ensures image { λ r. ⌜ imageOf r ≡ refusedImage (now (first .entry)) (now (second .entry)) ⌝ }

@@ -12,7 +12,7 @@ use sparse_rules::Cursor;
 use sparse_rules::Kind;
 
 // Whether the blocks of a kind of chunk are written.
-pub fn stores(kind: Kind) -> bool
+pub fn writes(kind: Kind) -> bool
     ensures { λ r. ⌜ r ≡ writes kind ⌝ }
 {
     match kind {

@@ -1,13 +1,14 @@
 -- The refusals of two images, one by one.
 -- Assumes nothing.
-use mathlib.Core.Path.{_≡_, refl, sym}
+use mathlib.Core.Path.{_≡_, refl, sym, ap, subst, _∙_}
 use mathlib.Core.Bool.{Bool, true, false, not, _&&_}
-use mathlib.Core.List.{List, [], _∷_}
-use Prim.Native.Nat.{ℕ, _*_, _≤_}
+use mathlib.Core.List.{List, [], _∷_, _++_}
+use Prim.Native.Nat.{ℕ, _+_, _-_, _*_, _≤_}
 use native.Mathlib.Omega.{arith}
 use borrow.Author.Tests.{eqb-true, eq-eqb, le-ltb}
 use lib.Dec.{eqb}
-use lib.ListN.{length}
+use lib.ListN.{length, getD, drop}
+use lib.Seq.{take-append-seam, getD-append-add, getD-drop}
 use Rattle.rules.specs.First.{first}
 use Rattle.rules.specs.Answer.{Answer, accepted, refused, unless, onward}
 use Rattle.rules.proofs.Answer.{unless-accepted, accepted-same}
@@ -21,9 +22,10 @@ use Rattle.sparse_rules.specs.Judge.{judged}
 use Rattle.sparse_rules.specs.Answers as judge
 use Rattle.sparse_rules.proofs.Image.{answer-accepted, answer-refused}
 use Rattle.sparse_blocks_rules.specs.Blocks.{needed, found, blocksFound, blocks}
-use Rattle.sparse_blocks_rules.specs.Pairs.{sameGeometry, pairAnswer, refusedImage, Accepted, Matched}
-use Rattle.sparse_blocks_rules.specs.Theorems.{Judged, Ordered}
+use Rattle.sparse_blocks_rules.specs.Pairs.{sameGeometry, pairAnswer, refusedImage, leftBy, Accepted, Matched}
+use Rattle.sparse_blocks_rules.specs.Theorems.{Judged, Ordered, Leaves}
 use Rattle.sparse_blocks_rules.proofs.Giving.{gives}
+use Rattle.sparse_blocks_rules.proofs.Own.{Own, found-own}
 
 -- ---- one image
 
@@ -48,7 +50,7 @@ none-refused s n place e = rw e
 
 -- what is found of an image that is judged as if the partition had room
 pub judged-so : Judged
-judged-so = record { anywhere = anywhere; given = λ s a. gives a; none = none-refused }
+judged-so = record { anywhere = anywhere; given = λ s a. gives a; none = none-refused; own = λ s n place e. subst Own e (found-own s) }
 
 -- ---- two images
 
@@ -146,3 +148,20 @@ geometry-of s t e f = rw (e, f)
 -- the room that is needed
 pub needed-is : (s : List ℕ) {h : Header} → h ≡ headerOf s → h .total * h .block ≡ needed s
 needed-is s e = rw e
+
+-- ---- the space
+
+left-past : (n : ℕ) (put space : List ℕ) (i : ℕ) → length put ≤ i → getD (leftBy (accepted n) put space) i 0 ≡ getD space i 0
+left-past n put space i h =
+    let z : i ≡ length put + (i - length put) = omega arith in
+    ap (λ (k : ℕ). getD (put ++ drop (length put) space) k 0) z ∙ getD-append-add put (drop (length put) space) (i - length put) 0
+    ∙ getD-drop (length put) space (i - length put) 0 ∙ ap (λ (k : ℕ). getD space k 0) (sym z)
+
+-- what an answer leaves in lent space
+pub leaves : Leaves
+leaves =
+    record {
+      start = λ n put space. take-append-seam put (drop (length put) space);
+      past = left-past;
+      refusal = λ n place put space. refl;
+    }

@@ -3,14 +3,14 @@
 use mathlib.Core.Path.{_≡_, refl, sym, ap, _∙_}
 use mathlib.Core.Bool.{Bool, true, false, cond}
 use mathlib.Core.List.{List, [], _++_}
-use Prim.Native.Nat.{ℕ, zero, suc, _+_, _-_, _*_, _≤_, _<_}
+use Prim.Native.Nat.{ℕ, zero, suc, _+_, _-_, _*_, min, _≤_, _<_}
 use native.Mathlib.Nat.{zero-lt-suc, min-eq-left}
 use native.Mathlib.Numerals.{sub-one}
 use native.Mathlib.Omega.{arith}
 use borrow.Author.Tests.{ltb-true, ltb-false}
 use lib.Dec.{ltb}
-use lib.ListN.{length, drop}
-use lib.Seq.{drop-append-le, drop-append-add}
+use lib.ListN.{length, drop, length-append, drop-of-length-le}
+use lib.Seq.{drop-append-le, drop-append-add, drop-drop}
 use Rattle.rules.specs.Answer.{accepted, refused}
 use Rattle.sparse_rules.specs.declared.Header.{Header}
 use Rattle.sparse_rules.specs.declared.Cursor.{Cursor}
@@ -103,24 +103,10 @@ module _ {s : List ℕ} {r : Reader} (w : Reads s r) (n : ℕ) (h : n ≤ r .chu
       ∙ ap (λ (x : List Block). x ++ ys) (less-blocks (w .here) n h) ∙ sym (drop-append-le n xs ys (rw length-stretch h))
       ∙ sym (ap (drop n) (rest-is w))
 
-  short-passed : (n ≡ r .chunk .blocks → remaining s (shortened (length s) r n) ≡ []) → Passed s r n (shortened (length s) r n)
-  unfolding less
-  short-passed none = record { ready = record { reads = short-reads; settled = λ z. none (omega arith) }; same = refl; rest = short-rest }
-
   -- where one of the chunk's is left
   short-some : n < r .chunk .blocks → Passed s r n (shortened (length s) r n)
-  short-some p = short-passed (λ z. absurd (omega arith))
-
-  -- at the end of the image
-  short-last : r .left ≡ 0 → Passed s r n (shortened (length s) r n)
   unfolding less
-  short-last z =
-      short-passed
-      (λ e.
-      left-over s (r .header) (r .cursor) (r .left) (less (length s) (r .header .block) (r .chunk) n) (w .ks) (w .walked)
-      ∙ ap (λ (x : List Block). x ++ blocksOf s (r .header .block) (w .ks))
-      (stretch-none s (r .header .block) (r .chunk .kind) (r .chunk .blocks - n) (less (length s) (r .header .block) (r .chunk) n .body) (omega arith))
-      ∙ ap (blocksOf s (r .header .block)) (ended s (length s) (r .header) (r .left) (r .cursor) (w .ks) (w .walked) z .none) ∙ blocks-nil s (r .header .block))
+  short-some p = record { ready = record { reads = short-reads; settled = λ z. absurd (omega arith) }; same = refl; rest = short-rest }
 
 -- past a whole chunk, in the next
 module _ {s : List ℕ} {h : Header} {left : ℕ} {c : Cursor} {k : Chunk} (w : Reads s (standing h c (suc left) k)) (k′ : Chunk) (next : Cursor)
@@ -151,35 +137,91 @@ module _ {s : List ℕ} {h : Header} {left : ℕ} {c : Cursor} {k : Chunk} (w : 
       ∙ sym (drop-append-add xs (blocksOf s b (w .ks)) 0) ∙ ap (λ (m : ℕ). drop m (xs ++ blocksOf s b (w .ks))) long
       ∙ ap (drop (k .blocks)) (sym (rest-is w))
 
--- past n blocks, where it is known what passing none makes of the reader in the next chunk
-pass-step : (s : List ℕ) (h : Header) (left : ℕ) (c : Cursor) (k : Chunk) (n : ℕ) → Reads s (standing h c (suc left) k) → n ≤ k .blocks
-    → ((k′ : Chunk) (next : Cursor) → Reads s (standing h next left k′) → Passed s (standing h next left k′) 0 (passed s h left next k′ 0))
+-- more blocks than the last chunk has: none is left
+kind-over : (s : List ℕ) (b : ℕ) (k : Kind) (blocks body n : ℕ) → blocks - n ≡ 0 → body + dataBytes k blocks b ≤ length s
+    → min (body + n * pace b k) (length s) + dataBytes k (blocks - n) b ≤ length s
+kind-over s b Raw blocks body n z i = rw z (omega arith)
+kind-over s b Fill blocks body n z i = omega arith
+kind-over s b DontCare blocks body n z i = omega arith
+kind-over s b Unknown blocks body n z i = omega arith
+
+module _ {s : List ℕ} {r : Reader} (w : Reads s r) (last : r .left ≡ 0) (n : ℕ) (all : r .chunk .blocks ≤ n) where
+  over-none : remaining s (shortened (length s) r n) ≡ []
+  unfolding less
+  over-none =
+      left-over s (r .header) (r .cursor) (r .left) (less (length s) (r .header .block) (r .chunk) n) (w .ks) (w .walked)
+      ∙ ap (λ (x : List Block). x ++ blocksOf s (r .header .block) (w .ks))
+      (stretch-none s (r .header .block) (r .chunk .kind) (r .chunk .blocks - n) (less (length s) (r .header .block) (r .chunk) n .body) (omega arith))
+      ∙ ap (blocksOf s (r .header .block)) (ended s (length s) (r .header) (r .left) (r .cursor) (w .ks) (w .walked) last .none) ∙ blocks-nil s (r .header .block)
+
+  over-last : Passed s r n (shortened (length s) r n)
+  unfolding less
+  over-last =
+      let b : ℕ = r .header .block in
+      let xs : List Block = stretch s b (r .chunk .kind) (r .chunk .blocks) (r .chunk .body) in
+      let none = ap (blocksOf s b) (ended s (length s) (r .header) (r .left) (r .cursor) (w .ks) (w .walked) last .none) ∙ blocks-nil s b in
+      let long = ap length (rest-is w) ∙ length-append xs (blocksOf s b (w .ks)) in
+      let few : length (remaining s r) ≤ n = omega (arith, long, ap length none, length-stretch s b (r .chunk .kind) (r .chunk .blocks) (r .chunk .body)) in
+      record {
+        ready =
+            record {
+              reads =
+                  record {
+                    ks = w .ks;
+                    walked = w .walked;
+                    here =
+                        record {
+                          most = w .here .most;
+                          fours = w .here .fours;
+                          inside = kind-over s b (r .chunk .kind) (r .chunk .blocks) (r .chunk .body) n (omega arith) (w .here .inside);
+                        };
+                    least = w .least;
+                  };
+              settled = λ z. over-none;
+            };
+        same = refl;
+        rest = over-none ∙ sym (drop-of-length-le (remaining s r) few);
+      }
+
+-- past n blocks, where it is known what passing some makes of the reader in the next chunk
+pass-step : (s : List ℕ) (h : Header) (left : ℕ) (c : Cursor) (k : Chunk) (n : ℕ) → Reads s (standing h c (suc left) k)
+    → ((k′ : Chunk) (next : Cursor) (m : ℕ) → Reads s (standing h next left k′) → Passed s (standing h next left k′) m (passed s h left next k′ m))
     → Passed s (standing h c (suc left) k) n (passed s h (suc left) c k n)
 unfolding passed
-pass-step s h left c k n w p onward = go (ltb n (k .blocks)) refl
+pass-step s h left c k n w onward = go (ltb n (k .blocks)) refl
   where
-    by : n ≡ k .blocks → (x : Reading) → reading s (length s) h c ≡ x
+    by : k .blocks ≤ n → (x : Reading) → reading s (length s) h c ≡ x
         → Passed s (standing h c (suc left) k) n (readOr x (standing h c 0 nothing) (λ r. passed s h left (r .1) (r .0) (n - k .blocks)))
     by all (refused m place) q = absurd (never-refused s (length s) h (suc left) c (w .ks) (w .walked) (zero-lt-suc left) m place q)
     by all (accepted r) q =
-        let z : n - k .blocks ≡ 0 = omega arith in
-        let v = onward (r .0) (r .1) (next-reads w (r .0) (r .1) q) in
+        let z : k .blocks + (n - k .blocks) ≡ n = omega arith in
+        let v = onward (r .0) (r .1) (n - k .blocks) (next-reads w (r .0) (r .1) q) in
         let before : List Block = remaining s (standing h c (suc left) k) in
-        rw z (record { ready = v .ready; same = v .same; rest = v .rest ∙ next-rest w (r .0) (r .1) q ∙ ap (λ (m : ℕ). drop m before) (sym all) })
+        record {
+          ready = v .ready;
+          same = v .same;
+          rest =
+              v .rest ∙ ap (drop (n - k .blocks)) (next-rest w (r .0) (r .1) q) ∙ drop-drop (n - k .blocks) (k .blocks) before
+              ∙ ap (λ (m : ℕ). drop m before) z;
+        }
 
     go : (x : Bool) → ltb n (k .blocks) ≡ x
         → Passed s (standing h c (suc left) k) n
         (cond x (standing h c (suc left) (less (length s) (h .block) k n))
         (readOr (reading s (length s) h c) (standing h c 0 nothing) (λ r. passed s h left (r .1) (r .0) (n - k .blocks))))
-    go true e = short-some w n p (ltb-true n (k .blocks) e)
-    go false e = by (omega (arith, ltb-false n (k .blocks) e)) (reading s (length s) h c) refl
+    go true e = let p = ltb-true n (k .blocks) e in short-some w n (omega arith) p
+    go false e = by (ltb-false n (k .blocks) e) (reading s (length s) h c) refl
 
--- past n blocks of the chunk that is being read
-pub passes : (s : List ℕ) (h : Header) (left : ℕ) (c : Cursor) (k : Chunk) (n : ℕ) → Reads s (standing h c left k) → n ≤ k .blocks
+-- past any number of blocks
+pub passes : (s : List ℕ) (h : Header) (left : ℕ) (c : Cursor) (k : Chunk) (n : ℕ) → Reads s (standing h c left k)
     → Passed s (standing h c left k) n (passed s h left c k n)
 unfolding passed
-passes s h zero c k n w p = short-last w n p refl
-passes s h (suc left) c k n w p = pass-step s h left c k n w p (λ k′ next v. passes s h left next k′ 0 v (omega arith))
+passes s h zero c k n w = go (ltb n (k .blocks)) refl
+  where
+    go : (x : Bool) → ltb n (k .blocks) ≡ x → Passed s (standing h c 0 k) n (standing h c 0 (less (length s) (h .block) k n))
+    go true e = let p = ltb-true n (k .blocks) e in short-some w n (omega arith) p
+    go false e = over-last w refl n (ltb-false n (k .blocks) e)
+passes s h (suc left) c k n w = pass-step s h left c k n w (λ k′ next m v. passes s h left next k′ m v)
 
 -- ---- the start
 
@@ -210,12 +252,13 @@ module _ {s : List ℕ} (a : Accepted s) where
   pub opens : Ready s (opened s) × (remaining s (opened s) ≡ blocks s) × (opened s .header ≡ headerOf s)
   unfolding opened
   opens =
-      let v = passes s (headerOf s) (headerOf s .chunks) (origin (headerOf s)) nothing 0 start-reads (omega arith) in
+      let v = passes s (headerOf s) (headerOf s .chunks) (origin (headerOf s)) nothing 0 start-reads in
       (v .ready, v .rest ∙ start-rest, v .same)
 
+-- what a reader of an accepted image gives
 pub reader-gives : ReaderGives
 reader-gives =
     record {
       opens = λ s a. let v = opens a in (v .0, v .1);
-      passes = λ s r n w h. let v = passes s (r .header) (r .left) (r .cursor) (r .chunk) n (w .reads) h in (v .ready, v .rest);
+      passes = λ s r n w. let v = passes s (r .header) (r .left) (r .cursor) (r .chunk) n (w .reads) in (v .ready, v .rest);
     }

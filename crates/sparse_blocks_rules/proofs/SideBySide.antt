@@ -93,8 +93,8 @@ module _ {s t : List ℕ} {a b : Reader} (w : Beside s t a b) where
   -- blocks in front are taken
   pub takes : (f : Block → Block → ℕ) (kind n : ℕ) → InFront f s t a b kind n → Taken f s t a b kind n (passedBy s a n) (passedBy t b n)
   takes f kind n p =
-      let u = passes s (a .header) (a .left) (a .cursor) (a .chunk) n (w .first .reads) (p .first) in
-      let v = passes t (b .header) (b .left) (b .cursor) (b .chunk) n (w .second .reads) (p .second) in
+      let u = passes s (a .header) (a .left) (a .cursor) (a .chunk) n (w .first .reads) in
+      let v = passes t (b .header) (b .left) (b .cursor) (b .chunk) n (w .second .reads) in
       let la = ap length (u .rest) ∙ length-drop n (remaining s a) in
       let lb = ap length (v .rest) ∙ length-drop n (remaining t b) in
       record {

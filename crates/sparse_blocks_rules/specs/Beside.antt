@@ -25,6 +25,7 @@ pub record Reads (s : List ℕ) (r : Reader) : Type 0 where
   pub walked : walk s (length s) (r .header) (r .left) (r .cursor) ≡ accepted ks
   -- the data of what is left of that one lie in the image
   pub here : Summable s (r .header .block) (r .chunk)
+  -- and a block is 4 bytes long at least
   pub least : 4 ≤ r .header .block
 
 -- and that stands in a chunk that has a block, unless none is left
@@ -34,16 +35,22 @@ pub record Ready (s : List ℕ) (r : Reader) : Type 0 where
 
 -- readers of two images that have as many blocks left, of one size
 pub record Beside (s t : List ℕ) (a b : Reader) : Type 0 where
+  -- each stands in a chunk that has a block, unless none is left
   pub first : Ready s a
   pub second : Ready t b
+  -- the blocks of both are of one size
   pub size : a .header .block ≡ b .header .block
+  -- and as many are left
   pub long : length (remaining t b) ≡ length (remaining s a)
 
 -- the first n blocks in both chunks, to each pair of which a rule gives this kind
 pub record InFront (f : Block → Block → ℕ) (s t : List ℕ) (a b : Reader) (kind n : ℕ) : Type 0 where
+  -- there are some
   pub some : 0 < n
+  -- both chunks have them
   pub first : n ≤ a .chunk .blocks
   pub second : n ≤ b .chunk .blocks
+  -- and each pair is of the kind
   pub alike : (j : ℕ) → j < n
       → f (blockFrom s (a .header .block) (a .chunk .kind) (a .chunk .body + j * pace (a .header .block) (a .chunk .kind)))
       (blockFrom t (b .header .block) (b .chunk .kind) (b .chunk .body + j * pace (b .header .block) (b .chunk .kind))) ≡ kind

@@ -7,7 +7,7 @@ ghost use Rattle.sparse_blocks_rules.specs.Beside.{Beside, InFront};
 ghost use Rattle.sparse_diff_rules.specs.Diff.{change};
 use sparse_blocks::is_raw;
 use sparse_blocks::same_block;
-use sparse_blocks::stores;
+use sparse_blocks::writes;
 use sparse_blocks_rules::Reader;
 
 // So many blocks in front have one kind of change.
@@ -61,13 +61,13 @@ pub(crate) fn front(first: &[u8], second: &[u8], a: Reader, b: Reader) -> Change
     let one = x.kind;
     let other = y.kind;
     let n = least(x.blocks, y.blocks);
-    if stores(one) {
-        if stores(other) {
+    if writes(one) {
+        if writes(other) {
             return written(first, second, a, b);
         }
         return Change { kind: 1, blocks: n };
     }
-    if stores(other) {
+    if writes(other) {
         return Change { kind: 2, blocks: n };
     }
     Change { kind: 0, blocks: n }

@@ -1,6 +1,6 @@
 // What changed between two sparse images: the longest runs of blocks that neither writes, that only one of them writes, that
-// both write alike, and that both write differently. Where both sides are skipped or filled, the blocks of two chunks are one
-// step, however many they are; else a step is one block, and each block is compared once.
+// both write alike, and that both write differently. Where both images write and one is raw, a step is one block; else it is all
+// blocks that two chunks have in common, however many they are. With little room the blocks are gone over twice.
 mod front;
 mod growing;
 
@@ -28,7 +28,7 @@ fn list(first: &[u8], second: &[u8], space: &mut [u32]) -> usize
 {
     let mut a = open(first);
     let mut b = open(second);
-    let mut list = Growing {
+    let mut growing = Growing {
         runs: 0,
         first: 0,
         blocks: 0,
@@ -36,25 +36,24 @@ fn list(first: &[u8], second: &[u8], space: &mut [u32]) -> usize
     };
     while 0 < a.chunk.blocks {
         let f = front(first, second, a, b);
-        list = grow(space, list, f);
+        growing = grow(space, growing, f);
         a = pass(first, a, f.blocks);
         b = pass(second, b, f.blocks);
     }
-    put_run(space, list)
+    put_run(space, growing)
 }
 
 // Whether the runs of two images that match have room. Where there is room for a run of each block they need not be counted.
-fn fits(first: &[u8], second: &[u8], space: &mut [u32]) -> bool
+fn fits(first: &[u8], second: &[u8], room: usize) -> bool
     requires { ⌜ Matched (now first) (now second) ⌝ }
-    ensures answer { λ r. ⌜ r ≡ leb (3 * length (diff (now (first .entry)) (now (second .entry)))) (length (now (space .entry))) ⌝ }
-    ensures contents { λ _. ⌜ now (space .exit) ≡ now (space .entry) ⌝ }
+    ensures { λ r. ⌜ r ≡ leb (3 * length (diff (now (first .entry)) (now (second .entry)))) room ⌝ }
 {
-    let room = space.len();
     let blocks = sparse_read::read_header(first).total as usize;
     if 3 * blocks <= room {
         return true;
     }
-    let runs = list(first, second, &mut space[0..0]);
+    let mut none = [0u32; 0];
+    let runs = list(first, second, &mut none);
     3 * runs <= room
 }
 
@@ -69,7 +68,7 @@ pub fn compare(first: &[u8], second: &[u8], space: &mut [u32]) -> Paired
     let Paired::Done(_) = found else {
         return found;
     };
-    if fits(first, second, space) {
+    if fits(first, second, space.len()) {
         return Paired::Done(list(first, second, space));
     }
     Paired::Refused(

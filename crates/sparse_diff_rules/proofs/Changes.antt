@@ -19,10 +19,6 @@ use Rattle.sparse_blocks_rules.proofs.Comparing.{written, kept, block-alike}
 use Rattle.sparse_blocks_rules.proofs.SideBySide.{both-have}
 use Rattle.sparse_diff_rules.specs.Diff.{change}
 
--- the lesser of two counts that are not 0
-pub min-positive : (m n : ℕ) → 0 < m → 0 < n → (0 < min m n) × (min m n ≤ m) × (min m n ≤ n)
-min-positive m n g h = (omega arith, omega arith, omega arith)
-
 -- only the data of raw blocks stand apart
 stays : (b : ℕ) (k : Kind) → isRaw k ≡ false → pace b k ≡ 0
 stays b Raw e = cc
@@ -34,21 +30,29 @@ stays b Unknown e = refl
 one-place : (b : ℕ) (k : Kind) (body j : ℕ) → isRaw k ≡ false → body + j * pace b k ≡ body
 one-place b k body j e = rw (stays b k e, mul-zero) (omega arith)
 
-module _ {s t : List ℕ} {a b : Reader} (n : ℕ) (some-left : 0 < n) (g : n ≤ a .chunk .blocks) (h : n ≤ b .chunk .blocks) where
+-- as many blocks as both chunks have
+module _ {s t : List ℕ} {a b : Reader} (w : Beside s t a b) (some-left : 0 < a .chunk .blocks) {n : ℕ}
+    (least : n ≡ min (a .chunk .blocks) (b .chunk .blocks)) where
+  lesser : (0 < n) × (n ≤ a .chunk .blocks) × (n ≤ b .chunk .blocks)
+  lesser = let h = both-have w some-left in (omega arith, omega arith, omega arith)
+
+  all-front : {kind : ℕ}
+      → ((j : ℕ) → change (blockFrom s (a .header .block) (a .chunk .kind) (a .chunk .body + j * pace (a .header .block) (a .chunk .kind)))
+      (blockFrom t (b .header .block) (b .chunk .kind) (b .chunk .body + j * pace (b .header .block) (b .chunk .kind))) ≡ kind)
+      → InFront change s t a b kind n
+  all-front alike = record { some = lesser .0; first = lesser .1; second = lesser .2; alike = λ j l. alike j }
+
   -- neither image writes
   pub front-neither : writes (a .chunk .kind) ≡ false → writes (b .chunk .kind) ≡ false → InFront change s t a b 0 n
-  front-neither e f =
-      record { some = some-left; first = g; second = h; alike = λ j l. ap₂ change (kept s _ (a .chunk .kind) _ e) (kept t _ (b .chunk .kind) _ f) }
+  front-neither e f = all-front (λ j. ap₂ change (kept s _ (a .chunk .kind) _ e) (kept t _ (b .chunk .kind) _ f))
 
   -- only the first
   pub front-first : writes (a .chunk .kind) ≡ true → writes (b .chunk .kind) ≡ false → InFront change s t a b 1 n
-  front-first e f =
-      record { some = some-left; first = g; second = h; alike = λ j l. ap₂ change (written s _ (a .chunk .kind) _ e .is) (kept t _ (b .chunk .kind) _ f) }
+  front-first e f = all-front (λ j. ap₂ change (written s _ (a .chunk .kind) _ e .is) (kept t _ (b .chunk .kind) _ f))
 
   -- only the second
   pub front-second : writes (a .chunk .kind) ≡ false → writes (b .chunk .kind) ≡ true → InFront change s t a b 2 n
-  front-second e f =
-      record { some = some-left; first = g; second = h; alike = λ j l. ap₂ change (kept s _ (a .chunk .kind) _ e) (written t _ (b .chunk .kind) _ f .is) }
+  front-second e f = all-front (λ j. ap₂ change (kept s _ (a .chunk .kind) _ e) (written t _ (b .chunk .kind) _ f .is))
 
 module _ {s t : List ℕ} {a b : Reader} (w : Beside s t a b) (some-left : 0 < a .chunk .blocks) (e : writes (a .chunk .kind) ≡ true)
     (f : writes (b .chunk .kind) ≡ true) {kind : ℕ} (is : kind ≡ cond (sameBlock s (a .chunk) t (b .chunk) (a .header .block)) 3 4) where
@@ -77,17 +81,13 @@ module _ {s t : List ℕ} {a b : Reader} (w : Beside s t a b) (some-left : 0 < a
       }
 
   -- all blocks that both chunks have, where neither is raw
-  pub front-all : (n : ℕ) → 0 < n → n ≤ a .chunk .blocks → n ≤ b .chunk .blocks → (isRaw (a .chunk .kind) || isRaw (b .chunk .kind)) ≡ false
+  pub front-all : {n : ℕ} → n ≡ min (a .chunk .blocks) (b .chunk .blocks) → (isRaw (a .chunk .kind) || isRaw (b .chunk .kind)) ≡ false
       → InFront change s t a b kind n
-  front-all n p g h none-raw =
-      record {
-        some = p;
-        first = g;
-        second = h;
-        alike = λ j l.
-            rw (
-              one-place (a .header .block) (a .chunk .kind) (a .chunk .body) j (or-left (isRaw (a .chunk .kind)) (isRaw (b .chunk .kind)) none-raw),
-              one-place (b .header .block) (b .chunk .kind) (b .chunk .body) j (or-right (isRaw (a .chunk .kind)) (isRaw (b .chunk .kind)) none-raw),
-            )
-            first-change;
-      }
+  front-all least none-raw =
+      all-front w some-left least
+      (λ j.
+      rw (
+        one-place (a .header .block) (a .chunk .kind) (a .chunk .body) j (or-left (isRaw (a .chunk .kind)) (isRaw (b .chunk .kind)) none-raw),
+        one-place (b .header .block) (b .chunk .kind) (b .chunk .body) j (or-right (isRaw (a .chunk .kind)) (isRaw (b .chunk .kind)) none-raw),
+      )
+      first-change)

@@ -3,14 +3,14 @@
 use mathlib.Core.Path.{_≡_, refl, sym, _∙_}
 use mathlib.Core.Bool.{Bool, true}
 use mathlib.Core.List.{List, [], _∷_}
-use Prim.Native.Nat.{ℕ, suc, _+_, _*_, _≤_, _<_}
+use Prim.Native.Nat.{ℕ, suc, _+_, _*_, _≤_}
 use native.Mathlib.Omega.{arith}
 use borrow.Author.Tests.{leb-true}
 use lib.Dec.{leb}
 use lib.ListN.{length, set}
 use lib.Seq.{sets, length-sets}
 use Rattle.fields_rules.specs.Number.{placed}
-use Rattle.fields_rules.proofs.Laws.{placed-none, placed-whole, length-placed}
+use Rattle.fields_rules.proofs.Laws.{placed-whole, length-placed}
 use Rattle.fields_rules.proofs.Sets.{sets-append}
 use Rattle.sparse_write_rules.specs.Runs.{Run}
 use Rattle.sparse_diff_rules.specs.Diff.{runNumbers, numbers}
@@ -33,14 +33,6 @@ laid-whole space n first (r ∷ rs) h =
     rw put
     (laid-whole (sets space (3 * n) (runNumbers first r)) (suc n) (first + r .many) rs (omega arith)
     ∙ rw z (sym (sets-append (runNumbers first r) (numbers (first + r .many) rs) space (3 * n))))
-
--- where there is room for none, the space stays as it was
-pub laid-none : (space : List ℕ) (n first : ℕ) (rs : List (Run ℕ)) → length space < 3 → laid space n first rs ≡ space
-unfolding laid
-laid-none space n first [] h = refl
-laid-none space n first (r ∷ rs) h =
-    let put : placed space (3 * n) (runNumbers first r) ≡ space = placed-none space (3 * n) (runNumbers first r) (omega arith) in
-    rw put (laid-none space (suc n) (first + r .many) rs h)
 
 -- three numbers have room where the test says so
 pub room-three : (at : ℕ) (space : List ℕ) {x : Bool} → x ≡ leb (at + 3) (length space) → x ≡ true → at + 3 ≤ length space

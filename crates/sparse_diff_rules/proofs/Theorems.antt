@@ -8,7 +8,6 @@ use native.Mathlib.Omega.{arith}
 use borrow.Author.Tests.{ltb-false, lt-leb, le-leb}
 use lib.Dec.{ltb, eqb}
 use lib.ListN.{length, getD, take, drop, length-append, length-drop, length-replicate}
-use lib.Seq.{take-append-seam, getD-append-add, getD-drop}
 use Rattle.rules.specs.First.{first}
 use Rattle.rules.specs.Answer.{Answer, accepted, refused}
 use Rattle.rules.proofs.First.{first-none}
@@ -22,9 +21,9 @@ use Rattle.sparse_blocks_rules.specs.Pairs.{pairAnswer, pairTests}
 use Rattle.sparse_blocks_rules.proofs.Comparing.{tells-bytes}
 use Rattle.sparse_blocks_rules.proofs.Giving.{gives}
 use Rattle.sparse_blocks_rules.proofs.SideBySide.{length-each, each-at}
-use Rattle.sparse_blocks_rules.proofs.Pairing.{pair-accepted, pair-passed}
+use Rattle.sparse_blocks_rules.proofs.Pairing.{pair-refused, pair-accepted, pair-passed, leaves}
 use Rattle.sparse_diff_rules.specs.Diff.{change, changes, diff, numbers, spaceTests, answer, listed}
-use Rattle.sparse_diff_rules.specs.Theorems.{Listings, Kinds, ThreeNumbers, Answered, Kept, RefusalNumbers}
+use Rattle.sparse_diff_rules.specs.Theorems.{Listings, Kinds, ThreeNumbers, Answered, Kept, Refusals, RefusalNumbers}
 use Rattle.sparse_diff_rules.proofs.Laying.{length-numbers}
 use Rattle.sparse_diff_rules.proofs.Answering.{runs-few, answers-short, answers-listed}
 
@@ -94,6 +93,11 @@ answered s t space m =
       enough = λ h. fits (omega (arith, runs-few m));
     }
 
+-- a refusal of the two images comes whatever the space is
+pub refusals : Refusals
+unfolding answer
+refusals s t space n place e = sym (pair-refused s t (spaceTests s t space) (length (diff s t)) n place (sym e))
+
 -- no refusal has the number 0
 pub refusal-numbers : RefusalNumbers
 unfolding answer pairAnswer found
@@ -134,18 +138,11 @@ module _ (s t space : List ℕ) where
           ap length (kept-runs n e) ∙ length-append put (drop (length put) space) ∙ omega (arith, room .0, length-drop (length put) space)
 
   kept-start : (n : ℕ) → answer s t (length space) ≡ accepted n → take (3 * n) (listed s t space) ≡ numbers 0 (diff s t)
-  kept-start n e =
-      let put : List ℕ = numbers 0 (diff s t) in
-      rw (kept-runs n e, ← (has-room s t (length space) n e .1)) (take-append-seam put (drop (length put) space))
+  kept-start n e = rw (kept-runs n e, ← (has-room s t (length space) n e .1)) (leaves .start n (numbers 0 (diff s t)) space)
 
   kept-past : (n i : ℕ) → answer s t (length space) ≡ accepted n → 3 * n ≤ i → getD (listed s t space) i 0 ≡ getD space i 0
   kept-past n i e h =
-      let put : List ℕ = numbers 0 (diff s t) in
-      let j : ℕ = i - length put in
-      let z : i ≡ length put + (i - length put) = omega (arith, has-room s t (length space) n e .1) in
-      ap (λ (l : List ℕ). getD l i 0) (kept-runs n e) ∙ ap (λ (k : ℕ). getD (put ++ drop (length put) space) k 0) z
-      ∙ getD-append-add put (drop (length put) space) (i - length put) 0 ∙ getD-drop (length put) space (i - length put) 0
-      ∙ ap (λ (k : ℕ). getD space k 0) (sym z)
+      ap (λ (l : List ℕ). getD l i 0) (kept-runs n e) ∙ leaves .past n (numbers 0 (diff s t)) space i (omega (arith, has-room s t (length space) n e .1))
 
 -- the lent space
 pub kept : Kept

@@ -29,6 +29,9 @@ countWith g kinds = g .runs + length (runsWith g kinds)
 
 -- more blocks come after a list, and it comes to the same
 pub record Grown (space : List ℕ) (g : Growing) (kind n : ℕ) (space′ : List ℕ) (g′ : Growing) : Type 0 where
+  -- the space comes to the same, whatever follows
   pub puts : (rest : List ℕ) → spaceWith space g (replicate n kind ++ rest) ≡ spaceWith space′ g′ rest
+  -- and so does the number of runs
   pub counts : (rest : List ℕ) → countWith g (replicate n kind ++ rest) ≡ countWith g′ rest
+  -- the blocks go on where they were
   pub blocks : g′ .first + g′ .blocks ≡ g .first + g .blocks + n

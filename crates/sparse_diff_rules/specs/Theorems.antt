@@ -2,14 +2,14 @@
 -- Assumes nothing.
 use mathlib.Core.Path.{_≡_}
 use mathlib.Core.Option.{none, some}
-use mathlib.Core.List.{List}
+use mathlib.Core.List.{List, []}
 use Prim.Native.Nat.{ℕ, _+_, _*_, _≤_, _<_}
 use lib.ListN.{length, getD, take}
 use Rattle.rules.specs.Answer.{accepted, refused, HasNumber}
 use Rattle.sparse_rules.specs.Header.{totalBlocks}
 use Rattle.sparse_write_rules.specs.Runs.{Run, spread, Longest}
 use Rattle.sparse_blocks_rules.specs.Blocks.{blocks}
-use Rattle.sparse_blocks_rules.specs.Pairs.{refusedImage, Matched}
+use Rattle.sparse_blocks_rules.specs.Pairs.{pairAnswer, refusedImage, Matched}
 use Rattle.sparse_blocks_rules.specs.Theorems.{Given}
 use Rattle.sparse_diff_rules.specs.Diff.{change, changes, diff, numbers, answer, listed}
 
@@ -76,6 +76,10 @@ pub record Kept : Type 0 where
   pub start : (s t space : List ℕ) (n : ℕ) → answer s t (length space) ≡ accepted n → take (3 * n) (listed s t space) ≡ numbers 0 (diff s t)
   -- "nothing past them is touched"
   pub past : (s t space : List ℕ) (n i : ℕ) → answer s t (length space) ≡ accepted n → 3 * n ≤ i → getD (listed s t space) i 0 ≡ getD space i 0
+
+-- a refusal of the two images comes whatever the space is: which one, `Ordered` says
+abbrev pub Refusals : Type 0
+Refusals = (s t : List ℕ) (space n place : ℕ) → pairAnswer s t [] 0 ≡ refused n place → answer s t space ≡ refused n place
 
 -- no refusal has the number 0
 abbrev pub RefusalNumbers : Type 0

@@ -1,12 +1,8 @@
 -- `sparse_diff::compare` meets its contract.
 -- Assumes nothing.
 use mathlib.Core.Path.{sym, ap, _∙_}
-use mathlib.Core.List.{List}
-use Prim.Native.Nat.{ℕ}
 use borrow.Author.Needs.{needs}
 use Rattle.sparse_blocks_rules.specs.Pairs.{answerOf}
-use Rattle.sparse_diff_rules.specs.Diff.{diff}
-use Rattle.sparse_diff_rules.specs.Laid.{laid}
 use Rattle.sparse_diff_rules.proofs.Answering.{found-matched, answers-refusal, answers-short, answers-listed}
 use Rattle.sparse_diff.proofs.compare.Statement.{statement}
 use Rattle.sparse_diff.proofs.compare.Tie as tie
@@ -28,35 +24,31 @@ returns c =
     (ap answerOf told ∙ r .0, (c .before .before .matched .ensures .1, r .1))
 
 fits-requires : tie.Need-fits-requires
-fits-requires c κs = found-matched _ _ (sym (ap answerOf (c .before .enum-told .given .1)) ∙ c .before .before .before .matched .ensures .0)
+fits-requires c κs = found-matched _ _ (sym (ap answerOf (c .enum-told .given .1)) ∙ c .before .before .matched .ensures .0)
 
 list-requires : tie.Need-list-requires
-list-requires c κs = found-matched _ _ (sym (ap answerOf (c .before .before .before .before .before .before .enum-told .given .1)) ∙ c .before .before .before .before .before .before .before .before .matched .ensures .0)
+list-requires c κs = found-matched _ _ (sym (ap answerOf (c .before .before .before .enum-told .given .1)) ∙ c .before .before .before .before .before .matched .ensures .0)
 
 same-length : tie.Need-same-length
 same-length c = search needs
 
 returns-2 : tie.Need-returns-2
 returns-2 c =
-    let start = c .before .before .before .before .before .before .before .before .before .before .before .before .before .before .before .args in
+    let start = c .before .before .before .before .before .before .before .before .before .before .before .before .args in
     let s = start .first .now in
     let t = start .second .now in
-    let m = found-matched s t (sym (ap answerOf (c .before .before .before .before .before .before .before .before .before .enum-told .given .1)) ∙ c .before .before .before .before .before .before .before .before .before .before .before .matched .ensures .0) in
-    let r = answers-listed s t (start .space .now) m (sym (c .before .before .before .before .before .before .before .fits2 .ensures .0) ∙ c .before .before .before .before .if1 .taken) (c .before .before .list .ensures .0)
-    (c .before .before .list .ensures .1 ∙ ap (λ (l : List ℕ). laid l 0 0 (diff s t)) (c .before .before .before .before .before .before .before .fits2 .ensures .1)) in
+    let m = found-matched s t (sym (ap answerOf (c .before .before .before .before .before .before .enum-told .given .1)) ∙ c .before .before .before .before .before .before .before .before .matched .ensures .0) in
+    let r = answers-listed s t (start .space .now) m (sym (c .before .before .before .before .before .fits2 .ensures) ∙ c .before .before .before .before .if1 .taken) (c .before .before .list .ensures .0) (c .before .before .list .ensures .1) in
     (r .0, (r .1, r .2))
-
-same-length-2 : tie.Need-same-length-2
-same-length-2 c = search needs
 
 returns-3 : tie.Need-returns-3
 returns-3 c =
-    let start = c .before .before .before .before .before .before .before .before .before .before .before .args in
+    let start = c .before .before .before .before .before .before .before .before .args in
     let s = start .first .now in
     let t = start .second .now in
-    let m = found-matched s t (sym (ap answerOf (c .before .before .before .before .before .enum-told .given .1)) ∙ c .before .before .before .before .before .before .before .matched .ensures .0) in
-    let r = answers-short s t (start .space .now) m (sym (c .before .before .before .fits2 .ensures .0) ∙ c .if1 .left) in
-    (r .0, (r .1, c .before .before .before .fits2 .ensures .1 ∙ r .2))
+    let m = found-matched s t (sym (ap answerOf (c .before .before .enum-told .given .1)) ∙ c .before .before .before .before .matched .ensures .0) in
+    let r = answers-short s t (start .space .now) m (sym (c .before .fits2 .ensures) ∙ c .if1 .left) in
+    (r .0, (r .1, r .2))
 
 pub compare-spec : {M : Type 1} → statement M
 compare-spec =
@@ -70,5 +62,4 @@ compare-spec =
     list-requires
     same-length
     returns-2
-    same-length-2
     returns-3)

@@ -13,10 +13,10 @@ use Rattle.sparse_diff.proofs.list.Statement.{statement}
 use Rattle.sparse_diff.proofs.list.Tie as tie
 
 abbrev Inv-loop : tie.InvT-loop
-Inv-loop first second space₀ a₀ b₀ list₀ space a b list = Lists first second space₀ space a b list
+Inv-loop first second space₀ a₀ b₀ growing₀ space a b growing = Lists first second space₀ space a b growing
 
 abbrev μ-loop : tie.MeasureT-loop
-μ-loop first second space₀ a₀ b₀ list₀ space a b list = length (remaining first a)
+μ-loop first second space₀ a₀ b₀ growing₀ space a b growing = length (remaining first a)
 
 open-requires : tie.Need-open-requires Inv-loop μ-loop
 open-requires c κs = search needs

@@ -2,10 +2,8 @@
 -- Assumes nothing.
 use mathlib.Core.Path.{sym, ap, ap₂, _∙_}
 use mathlib.Core.Bool.{Bool, _||_, cond}
-use Prim.Native.Nat.{min}
 use borrow.Author.Needs.{needs}
-use Rattle.sparse_blocks_rules.proofs.SideBySide.{both-have}
-use Rattle.sparse_diff_rules.proofs.Changes.{min-positive, front-one, front-all}
+use Rattle.sparse_diff_rules.proofs.Changes.{front-one, front-all}
 use Rattle.sparse_diff.proofs.front.written.Statement.{statement}
 use Rattle.sparse_diff.proofs.front.written.Tie as tie
 
@@ -32,11 +30,8 @@ least-requires c κs = search needs
 returns-2 : tie.Need-returns-2
 returns-2 c =
     let start = c .before .before .before .before .before .before .before .before .before .before in
-    let lesser = min-positive (start .args .a .chunk .blocks) (start .args .b .chunk .blocks) (start .pre .1) (both-have (start .pre .0) (start .pre .1)) in
-    rw (c .least .ensures)
-    (front-all (start .pre .0) (start .pre .1) (start .pre .2) (start .pre .3) (c .before .before .before .before .both .ensures ∙ ap (λ (z : Bool). cond z 3 4) (c .before .before .before .before .before .same-block .ensures))
-    (min (start .args .a .chunk .blocks) (start .args .b .chunk .blocks)) (lesser .0) (lesser .1) (lesser .2)
-    (ap₂ (λ (x y : Bool). x || y) (sym (c .before .before .before .is-raw .ensures)) (sym (c .before .before .is-raw2 .ensures)) ∙ c .before .if1 .left))
+    front-all (start .pre .0) (start .pre .1) (start .pre .2) (start .pre .3) (c .before .before .before .before .both .ensures ∙ ap (λ (z : Bool). cond z 3 4) (c .before .before .before .before .before .same-block .ensures)) (c .least .ensures)
+    (ap₂ (λ (x y : Bool). x || y) (sym (c .before .before .before .is-raw .ensures)) (sym (c .before .before .is-raw2 .ensures)) ∙ c .before .if1 .left)
 
 pub written-spec : {M : Type 1} → statement M
 written-spec =
