@@ -136,6 +136,17 @@ void say_flag(const char *name, bool set)
     fputs(!answer.json ? name : set ? "true" : "false", stdout);
 }
 
+void say_in_words(const char *name, uint64_t value)
+{
+    static const char *const words[] = {"zero", "one", "two", "three", "four", "five", "six", "seven"};
+
+    begin_member(name, false);
+    if (answer.json || value >= sizeof words / sizeof words[0])
+        printf("%" PRIu64, value);
+    else
+        fputs(words[value], stdout);
+}
+
 void say_column(const char *name, int width, uint64_t value)
 {
     begin_member(name, false);
@@ -181,6 +192,12 @@ void say_only_json(const char *name, const char *text)
 {
     if (answer.json)
         say_text(name, text);
+}
+
+void say_only_json_number(const char *name, uint64_t value)
+{
+    if (answer.json)
+        say_number(name, value);
 }
 
 void end_line(void)

@@ -24,6 +24,9 @@ void say_letter(const char *name, char letter);
 void say_number(const char *name, uint64_t value);
 void say_flag(const char *name, bool set);
 
+/* A number that text says as a word, up to seven, and without its name. */
+void say_in_words(const char *name, uint64_t value);
+
 /* A number that text says in two places and the object, which has a name only once, in the other. */
 void say_once_more(const char *name, uint64_t value);
 
@@ -35,9 +38,10 @@ void say_name_column(const char *name, int width, const char *text);
 void say_hex(const char *name, uint32_t value);
 void say_hex_or_none(const char *name, uint32_t value);
 
-/* A line of text that the object does not have, and a member that text does not have. */
+/* A line of text that the object does not have, and members that text does not have. */
 void say_line(const char *line);
 void say_only_json(const char *name, const char *text);
+void say_only_json_number(const char *name, uint64_t value);
 void end_line(void);
 
 /* A list of items, each with members; in text each item is a line. */

@@ -44,14 +44,16 @@ static const struct command {
      "          section that it has"},
     {"slots", 2, 3, 0, slots,
      "slots RECORD fresh COUNT\n"
-     "       tarpaulark slots RECORD start | confirm | show\n"
-     "       tarpaulark slots RECORD set-active | modified | corrupted SLOT",
-     "works on a slot record of 21 bytes: fresh makes one for 1 to 4 slots, start picks\n"
+     "       tarpaulark slots RECORD start | confirm\n"
+     "       tarpaulark slots RECORD set-active | modified | corrupted SLOT\n"
+     "       tarpaulark slots RECORD status | show",
+     "works on a slot record of 22 bytes: fresh makes one for 1 to 4 slots, start picks\n"
      "          the slot to start and takes its try, confirm marks the current slot\n"
      "          successful, corrupted marks a slot whose system is damaged, which then does not\n"
      "          start; set-active and modified clear that, but a slot that start has given up\n"
-     "          is unbootable until set-active; show prints the record; SLOT is a letter from a\n"
-     "          on"},
+     "          is unbootable until set-active; status says in words how each slot stands, and\n"
+     "          how many slots are startable: in use and neither unbootable nor corrupted; show\n"
+     "          prints the record in short; SLOT is a letter from a on"},
 };
 enum { COMMANDS = sizeof commands / sizeof commands[0] };
 
@@ -76,8 +78,9 @@ static const char options_help[] =
     "A header checksum of 0 states none: such an image is accepted without its data being\n"
     "checked, which judge, store and list say on standard error.\n"
     "\n"
-    "A slot record of 17 bytes, as tarpaulark 0.4.0 and before made it, has no flag corrupted.\n"
-    "It is refused with 31 and stays as it is; the man page says how to make a new one of it.\n"
+    "A slot record of 21 bytes, as tarpaulark 0.5.0 and 0.6.0 made it, lacks the count of\n"
+    "startable slots; one of 17 bytes, as 0.4.0 and before made it, the flag corrupted too. They\n"
+    "are refused with 31 and stay as they are; the man page says how to make new ones of them.\n"
     "\n"
     "Images, partitions and records are locked while they are used; a busy one is left\n"
     "alone. Results are on the disk before they are printed.\n"

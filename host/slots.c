@@ -5,14 +5,18 @@
 
 #include <errno.h>
 #include <fcntl.h>
+#include <stdio.h>
 #include <string.h>
 #include <unistd.h>
 
-/* The length of a record up to 0.4.0: four bytes for each slot, without corrupted, and the current slot. */
-enum { OLD_RECORD = 17 };
-
-#define IS_OLD_RECORD "is a slot record of 17 bytes, as tarpaulark 0.4.0 and before made it, without the flag" \
-                      " corrupted; to make a new one of it, see NOTES in the man page"
+/* Records of earlier versions, which only their length tells. */
+static const struct old_record {
+    int length;
+    const char *made_by, *lacks;
+} old_records[] = {
+    {21, "0.5.0 and 0.6.0", "the count of startable slots"},
+    {17, "0.4.0 and before", "the flag corrupted and the count of startable slots"},
+};
 
 static const char missing[] = "cannot be opened; see that it is there and that you may use it";
 
@@ -49,14 +53,40 @@ static ssize_t read_record(const char *path, int file, uint8_t record[TARPAULARK
     return length;
 }
 
-/* Refuses a file of so many bytes; of the old length it is said what it is. */
+/* What a file is that has the length of an old record, with words before and after; null for any other length. */
+static const char *words_on_old(off_t length, const char *before, const char *after)
+{
+    static char text[320];
+
+    for (size_t i = 0; i < sizeof old_records / sizeof old_records[0]; i++)
+        if (old_records[i].length == length) {
+            snprintf(text, sizeof text, "%s is a slot record of %d bytes, as tarpaulark %s made it, without %s; to make"
+                     " a new one of it, see NOTES in the man page%s", before, old_records[i].length,
+                     old_records[i].made_by, old_records[i].lacks, after);
+            return text;
+        }
+    return NULL;
+}
+
+/* Refuses a file of so many bytes; of one that has the length of an old record it is said what it is. */
 static enum status refuse_record(ssize_t length)
 {
     enum status status = refuse(TARPAULARK_BAD_RECORD, 0);
+    const char *old = words_on_old(length, "by its length this", "");
 
-    if (length == OLD_RECORD)
-        advise("record", "by its length this " IS_OLD_RECORD);
+    if (old != NULL)
+        advise("record", old);
     return status;
+}
+
+static const uint8_t *slot_in(const uint8_t *record, char letter)
+{
+    return record + TARPAULARK_RECORD_SLOT * (letter - 'a');
+}
+
+static char current_of(const uint8_t *record)
+{
+    return (char)('a' + record[TARPAULARK_RECORD_CURRENT]);
 }
 
 static void say_slot(char letter, const uint8_t *slot)
@@ -70,28 +100,114 @@ static void say_slot(char letter, const uint8_t *slot)
     close_item();
 }
 
+static void say_record(const uint8_t *record, uint64_t startable)
+{
+    say_text("current", (const char[]){current_of(record), '\0'});
+    say_number("startable", startable);
+    end_line();
+    open_list("slots");
+    for (char letter = 'a'; letter <= 'd'; letter++)
+        if (slot_in(record, letter)[TARPAULARK_SLOT_USED] != 0)
+            say_slot(letter, slot_in(record, letter));
+    close_list();
+}
+
+/* A word that is said of a slot where it is set, after a mark; the mark before the next one. */
+static const char *say_also(const char *mark, const char *name, bool set)
+{
+    if (set)
+        say_word(mark);
+    say_flag(name, set);
+    return set ? "," : mark;
+}
+
+/* Text leaves out the tries of a slot that is not startable: what makes it startable again sets them to 3. */
+static void say_tries(const char *mark, const uint8_t *slot)
+{
+    uint8_t tries = slot[TARPAULARK_SLOT_TRIES];
+
+    if (slot[TARPAULARK_SLOT_UNBOOTABLE] != 0 || slot[TARPAULARK_SLOT_CORRUPTED] != 0) {
+        say_only_json_number("tries", tries);
+        return;
+    }
+    say_word(mark);
+    say_in_words("tries", tries);
+    say_word(tries == 1 ? " try" : " tries");
+}
+
+static void say_state(char letter, const uint8_t *slot, bool is_current)
+{
+    const char *mark = ":";
+
+    open_item();
+    say_word("slot");
+    say_letter("slot", letter);
+    mark = say_also(mark, "current", is_current);
+    mark = say_also(mark, "unbootable", slot[TARPAULARK_SLOT_UNBOOTABLE] != 0);
+    mark = say_also(mark, "successful", slot[TARPAULARK_SLOT_SUCCESSFUL] != 0);
+    mark = say_also(mark, "corrupted", slot[TARPAULARK_SLOT_CORRUPTED] != 0);
+    say_tries(mark, slot);
+    close_item();
+}
+
+static void say_not_used(char letter)
+{
+    char line[24];
+
+    snprintf(line, sizeof line, "slot %c: not in use", letter);
+    say_line(line);
+}
+
+/* The states of all slots; how many are in use. */
+static uint64_t say_states(const uint8_t *record)
+{
+    uint64_t used = 0;
+
+    open_list("slots");
+    for (char letter = 'a'; letter <= 'd'; letter++) {
+        const uint8_t *slot = slot_in(record, letter);
+        bool is_used = slot[TARPAULARK_SLOT_USED] != 0;
+
+        if (is_used)
+            say_state(letter, slot, letter == current_of(record));
+        else
+            say_not_used(letter);
+        used += is_used;
+    }
+    close_list();
+    return used;
+}
+
+/* The record in words, for whoever wants to know how its slots stand. */
+static void say_status(const uint8_t *record, uint64_t startable)
+{
+    uint64_t used;
+
+    say_only_json("current", (const char[]){current_of(record), '\0'});
+    used = say_states(record);
+    say_in_words("startable", startable);
+    say_word(" of");
+    say_in_words("used", used);
+    say_word(used == 1 ? " slot in use" : " slots in use");
+    say_word(startable == 1 ? " is" : " are");
+    say_word(" neither unbootable nor corrupted");
+    end_line();
+}
+
 /* Needs no lock: a record file is never changed, only replaced. */
-static enum status show(const char *path)
+static enum status look(const char *path, void (*say)(const uint8_t *record, uint64_t startable))
 {
     uint8_t record[TARPAULARK_RECORD];
+    uint64_t answer[TARPAULARK_STARTABLE_ANSWER];
     struct mapped file = open_file(path, READ_IMAGE);
     ssize_t length;
 
     if (!S_ISREG(file.before.st_mode))
         misused(path, "is no file; name one");
     length = read_record(path, file.file, record);
-    if (length != TARPAULARK_RECORD || tarpaulark_slots_valid(record) != 0)
+    if (length != TARPAULARK_RECORD || tarpaulark_slots_startable(record, answer) != 0)
         return refuse_record(length);
-    say_text("current", (const char[]){(char)('a' + record[TARPAULARK_RECORD_CURRENT]), '\0'});
-    end_line();
-    open_list("slots");
-    for (char letter = 'a'; letter <= 'd'; letter++) {
-        const uint8_t *slot = record + TARPAULARK_RECORD_SLOT * (letter - 'a');
-
-        if (slot[TARPAULARK_SLOT_USED] != 0)
-            say_slot(letter, slot);
-    }
-    close_list();
+    say(record, answer[TARPAULARK_SLOTS_STARTABLE]);
     return DONE;
 }
 
@@ -133,15 +249,17 @@ static enum status change(const char *path, const struct operation *operation, u
     return keep_record(&place, number, record, answer);
 }
 
-/* Only an empty file, or one as long as a record, is replaced; one of the old length is neither. */
+/* Only an empty file, or one as long as a record, is replaced; an old record is neither. */
 static void expect_replaceable(const struct place *place)
 {
+    const char *old;
+
     if (place->held < 0 || place->old.st_size == 0 || place->old.st_size == TARPAULARK_RECORD)
         return;
-    if (place->old.st_size == OLD_RECORD)
-        misused(place->path, "is there already and by its length " IS_OLD_RECORD "; else name another file, or"
-                             " remove it");
-    misused(place->path, "is there already and is no record, which has 21 bytes; name another file, or remove it");
+    old = words_on_old(
+        place->old.st_size, "is there already and by its length", "; else name another file, or remove it");
+    misused(place->path, old != NULL ? old : "is there already and is no record, which has 22 bytes; name another"
+                                             " file, or remove it");
 }
 
 static enum status fresh(const char *path, const char *operand)
@@ -175,11 +293,13 @@ enum status slots(const struct request *request)
     if (strcmp(name, "fresh") == 0)
         return fresh(path, operand);
     if (strcmp(name, "show") == 0 && operand == NULL)
-        return show(path);
+        return look(path, say_record);
+    if (strcmp(name, "status") == 0 && operand == NULL)
+        return look(path, say_status);
     if (operation != NULL && operation->run != NULL && operand == NULL)
         return change(path, operation, 0);
     if (operation != NULL && operation->run_on != NULL && operand != NULL)
         return change(path, operation, as_slot(operand));
     misused(NULL, "slots takes RECORD and an operation: fresh with a COUNT, set-active, modified or corrupted with"
-                  " a SLOT, start, confirm or show with nothing");
+                  " a SLOT, start, confirm, show or status with nothing");
 }

@@ -27,8 +27,10 @@
  * From 0.3.0 to 0.4.0 the answers of judge, store and of finishing a pass grew from
  * 3 entries to 4, and a pass from 104 bytes to 112. From 0.4.0 to 0.5.0 a slot
  * record grew from 17 bytes to 21, and what stands after slot a's first three bytes
- * moved: use the names below (and see The slot record). Code compiled with a header
- * before 0.5.0 lends too little: compile it anew. 0.6.0 only adds to 0.5.0.
+ * moved: use the names below (and see The slot record). 0.6.0 only adds to 0.5.0.
+ * From 0.6.0 to 0.7.0 a slot record grew from 21 bytes to 22: the count of startable
+ * slots stands at its end. Code compiled with a header before 0.7.0 lends too little:
+ * compile it anew.
  *
  * Where it runs
  *
@@ -71,7 +73,7 @@
 #include <stdint.h>
 
 /* The version of the header, the library and the host tool; it stands only here. */
-#define TARPAULARK_VERSION "0.6.0"
+#define TARPAULARK_VERSION "0.7.0"
 
 /* Lengths of the answers, of a slot record and each slot in it, of the state of a
    pass, and of a run in numbers. */
@@ -83,7 +85,8 @@
 #define TARPAULARK_CHUNK_ANSWER 6
 #define TARPAULARK_LOCATE_ANSWER 19
 #define TARPAULARK_SLOTS_ANSWER 2
-#define TARPAULARK_RECORD 21
+#define TARPAULARK_STARTABLE_ANSWER 1
+#define TARPAULARK_RECORD 22
 #define TARPAULARK_RECORD_SLOT 5
 #define TARPAULARK_PIECE_ANSWER 1
 #define TARPAULARK_FINISH_ANSWER 4
@@ -248,7 +251,8 @@ enum {
 #define TARPAULARK_SECTION(s) (1 + 3 * (s))
 
 /* Positions in a slot record: slot number k, 0 for a, has its five bytes from
-   TARPAULARK_RECORD_SLOT * k on; after all four stands the current slot. */
+   TARPAULARK_RECORD_SLOT * k on; after all four stand the current slot and the
+   count of startable slots. */
 enum {
     TARPAULARK_SLOT_USED = 0,
     TARPAULARK_SLOT_UNBOOTABLE = 1,
@@ -257,13 +261,16 @@ enum {
     TARPAULARK_SLOT_TRIES = 4
 };
 enum {
-    TARPAULARK_RECORD_CURRENT = 20
+    TARPAULARK_RECORD_CURRENT = 20,
+    TARPAULARK_RECORD_STARTABLE = 21
 };
 
-/* Positions in the answer of a slot operation, and kinds of such an answer. */
+/* Positions in the answer of a slot operation and in that of slots_startable, and
+   kinds of an operation's answer. */
 enum {
     TARPAULARK_SLOTS_KIND = 0,
-    TARPAULARK_SLOTS_STARTED = 1
+    TARPAULARK_SLOTS_STARTED = 1,
+    TARPAULARK_SLOTS_STARTABLE = 0 /* slots_startable: the count of startable slots */
 };
 enum {
     TARPAULARK_DONE = 0,
@@ -491,7 +498,7 @@ uint32_t tarpaulark_locate(
     const uint8_t *image, size_t image_len, uint64_t answer[TARPAULARK_LOCATE_ANSWER]);
 
 /*
- * The slot record: 21 bytes. For the slots a, b, c and d in turn
+ * The slot record: TARPAULARK_RECORD bytes. For the slots a, b, c and d in turn
  *
  *    at 0, 5, 10, 15  used         0 or 1
  *    at 1, 6, 11, 16  unbootable   0 or 1
@@ -499,10 +506,18 @@ uint32_t tarpaulark_locate(
  *    at 3, 8, 13, 18  corrupted    0 or 1
  *    at 4, 9, 14, 19  tries        0 to 7
  *
- * and at 20 the current slot, 0 for a to 3 for d. A valid record has a current
- * slot in use, no used slot with tries above 7, and none both unbootable and
- * successful; places that are not used are ignored and kept. Bytes with another
- * flag than 0 or 1 are no record. Both give 31, and the bytes stay as they were.
+ * then at 20 the current slot, 0 for a to 3 for d, and at 21 the count of startable
+ * slots, 0 to 4. A valid record has a current slot in use, no used slot with tries
+ * above 7, none both unbootable and successful, and a count that is the number of
+ * its startable slots; places that are not used are ignored and kept. Bytes with
+ * another flag than 0 or 1 are no record. Both give 31, and the bytes stay as they
+ * were.
+ *
+ * A slot is startable when it is in use and neither unbootable nor corrupted. That
+ * says nothing of its tries: one that has none, and is not successful, is startable
+ * until Start marks it unbootable. Every operation keeps the count right, so a
+ * status lamp only reads it (tarpaulark_slots_startable). Whoever changes a flag by
+ * hand must change the count with it, or the record is invalid.
  *
  * A corrupted slot is one whose system is damaged: the kernel's block checker finds
  * that, and whoever learns of it calls tarpaulark_slots_corrupted. Such a slot may
@@ -510,11 +525,15 @@ uint32_t tarpaulark_locate(
  * and only set active and partition modified clear it. Start leaves such a slot
  * unbootable where it is current, which only set active clears.
  *
- * Up to 0.4.0 the record had 17 bytes, four for each slot, without corrupted. Only
- * the length tells the two apart: the bytes of an old one, and four more, may read
- * as a valid new one. Where no length is kept, make the new one before the first
- * call of this version: for each slot its first three bytes, 0 for corrupted and its
- * tries; then the current slot.
+ * Records of earlier versions are shorter. 0.5.0 and 0.6.0 had 21 bytes, without the
+ * count; versions up to 0.4.0 had 17, four for each slot, without corrupted and
+ * without the count. Only the length tells the three apart: the bytes of an old one,
+ * and some more, may read as a valid new one. Where no length is kept, make the new
+ * one before the first call of this version:
+ *
+ *    of 21 bytes  the same 21; then the number of startable slots
+ *    of 17 bytes  for each slot its first three bytes, 0 for corrupted and its
+ *                 tries; then the current slot; then the number of startable slots
  *
  * Each operation reads the record and, unless it is refused, writes the new one
  * in its place. A number of slots or a slot is taken whole, as 32 bits: one that
@@ -524,14 +543,24 @@ uint32_t tarpaulark_locate(
  */
 
 /*
- * Whether 21 bytes are a valid record: 0, or 31 where they are not. Reads them.
+ * Whether TARPAULARK_RECORD bytes are a valid record: 0, or 31 where they are not.
+ * Reads them.
  */
 uint32_t tarpaulark_slots_valid(const uint8_t record[TARPAULARK_RECORD]);
 
 /*
+ * How many slots are startable: the count that a valid record keeps. Reads the
+ * record.
+ * Refusal: 31.
+ * answer: the count, 0 after a refusal.
+ */
+uint32_t tarpaulark_slots_startable(
+    const uint8_t record[TARPAULARK_RECORD], uint64_t answer[TARPAULARK_STARTABLE_ANSWER]);
+
+/*
  * Makes a record for 1 to 4 slots, whatever the bytes held: the first so many in
- * use, current a, flags clear, tries 3. Another number gives 31, and the bytes
- * stay as they were.
+ * use, current a, flags clear, tries 3, and that number as the count. Another number
+ * gives 31, and the bytes stay as they were.
  */
 uint32_t tarpaulark_slots_fresh(
     uint32_t slots, uint8_t record[TARPAULARK_RECORD], uint64_t answer[TARPAULARK_SLOTS_ANSWER]);

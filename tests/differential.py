@@ -13,7 +13,7 @@ and ends with 1, also when a call crashes or does not end.
 A function of the library takes its arguments in order, then a pointer to the
 numbers it answers with, whose count is fixed; one that answers none takes no such
 pointer.  Bytes are a pointer and a length; a space for numbers of 32 bits is a
-pointer and how many it has; a slot record is a pointer to its 21 bytes, and the
+pointer and how many it has; a slot record is a pointer to its 22 bytes, and the
 state of a pass to its 112.  It returns 0 or the number of its refusal; beginning a
 pass returns nothing.  include/tarpaulark.h has the declarations.
 """
@@ -47,7 +47,7 @@ import sparse
 import store
 import writer
 from cases_common import below, pick, some_bytes, u32, u64
-from slots import PLACES, Record, Slot, is_valid
+from slots import PLACES, Record, Slot, counted, is_valid
 
 PREFIX = "tarpaulark_"
 SEED = 20240903
@@ -59,7 +59,7 @@ EDGES = (0, 1, 2, 3, 4, 7, 8, 11, 12, 13, 16, 28, 255, 256, 65532, 65535, 65536,
 EDGES += tuple(2**k + d for k in (30, 31, 32) for d in (-4, -1, 0, 1) if 2**k + d < 2**32)
 ROOM = 2**64 - 1
 SLOT_LENGTH, SLOT_FLAGS = 5, 4
-RECORD_LENGTH = PLACES * SLOT_LENGTH + 1
+RECORD_LENGTH = PLACES * SLOT_LENGTH + 2
 STATE_LENGTH = 112
 COME_AT, SUM_AT, COUNTS_AT, HEAD_AT = 28, 36, 56, 68
 LARGEST_LENT = 40000
@@ -366,12 +366,15 @@ def boot_input(rng: random.Random) -> bytes:
 
 
 def any_record(rng: random.Random) -> Record:
-    """A record, mostly one that is valid or nearly so."""
+    """A record, mostly one that is valid or nearly so; some with another count than that of
+    their flags."""
     if below(rng, 4) != 0:
         return cases_slots.random_record(rng)
     flags = [[below(rng, 2) == 1 for _ in range(SLOT_FLAGS)] for _ in range(PLACES)]
-    a, b, c, d = (Slot(*some, below(rng, 10)) for some in flags)
-    return Record((a, b, c, d), pick(rng, (0, 1, 2, 3, 4, 255)))
+    places = [Slot(*some, below(rng, 10)) for some in flags]
+    record = counted(places, pick(rng, (0, 1, 2, 3, 4, 255)))
+    near = cases_slots.near_count(rng, record.startable)
+    return record._replace(startable=pick(rng, (record.startable,) * 3 + (near,)))
 
 
 # The functions.
@@ -513,6 +516,16 @@ def valid_call(rng: random.Random) -> Call:
     if below(rng, 4) == 0:
         given, number = no_record(rng, given), 31
     return Call((given,), number, (), (given,))
+
+
+def startable_call(rng: random.Random) -> Call:
+    """`slots_startable`: the count, 0 when refused, for any bytes in the place of a record."""
+    record = any_record(rng)
+    given = bytes(cases_slots.record_values(record))
+    number, _, count = cases_slots.lamp_values(record)
+    if below(rng, 4) == 0:
+        given, number, count = no_record(rng, given), 31, 0
+    return Call((given,), number, (count,), (given,))
 
 
 def slots_call(operation: int, takes_slot: bool) -> Callable[[random.Random], Call]:
@@ -744,6 +757,7 @@ KINDS = (
     single("compare", ("bytes", "bytes", "numbers"), 3, compare_call),
     single("locate", ("bytes",), 19, locate_call),
     single("slots_valid", ("record",), 0, valid_call),
+    single("slots_startable", ("record",), 1, startable_call),
     single("slots_fresh", (32, "record"), 2, fresh_call),
     single("slots_start", ("record",), 2, slots_call(cases_slots.START, False)),
     single("slots_set_active", ("record", 32), 2, slots_call(cases_slots.SET_ACTIVE, True)),

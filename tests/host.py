@@ -79,11 +79,14 @@ NEXT = build.sparse_image(4, [
 TRIES = 4
 
 
-def record_of(places: str, current: str = "a") -> bytes:
+def record_of(places: str, current: str = "a", startable: Optional[int] = None) -> bytes:
     """A slot record: used, unbootable, successful, corrupted and tries of each place as five digits, which are zeros
-    for places that are left out; then the current slot."""
+    for places that are left out; then the current slot; then the count of startable slots, by the flags where none is
+    given."""
     digits = places.replace(" ", "").ljust(20, "0")
-    return bytes([int(digit) for digit in digits] + ["abcd".index(current)])
+    if startable is None:
+        startable = sum(digits[i:i + 2] + digits[i + 3] == "100" for i in range(0, 20, 5))
+    return bytes([int(digit) for digit in digits] + ["abcd".index(current), startable])
 
 
 FILES: Dict[str, bytes] = {
@@ -114,7 +117,9 @@ FILES: Dict[str, bytes] = {
     "boot": build.boot_image(3, 12289, kernel=4097, ramdisk=1),
     "odd": record_of("12000"),
     "ends": record_of("10000 10100"),
-    "old": bytes([1, 0, 1, 2] + [1, 1, 0, 0] + [0, 0, 0, 3] * 2 + [0]),
+    "miscounted": record_of("10003 10013", startable=2),
+    "old21": record_of("10102 11000 10013 10003")[:21],
+    "old17": bytes([1, 0, 1, 2] + [1, 1, 0, 0] + [0, 0, 0, 3] * 2 + [0]),
 }
 
 LISTED = """block 4 total 10 chunks 7 checksum {}
@@ -309,17 +314,20 @@ CASES = (
     Case("sections flat", 1, "refused 21 at 0"),
     Case("slots record fresh 2", 0, "ok"),
     Case("slots record start", 0, "starts a"),
-    Case("slots record show", 0, "current a\na tries 2\nb tries 3"),
+    Case("slots record show", 0, "current a startable 2\na tries 2\nb tries 3"),
     Case("slots record set-active b", 0, "ok"),
     Case("slots record confirm", 0, "ok"),
     Case("slots record modified b", 0, "ok"),
     Case("slots record modified c", 1, "refused 32 at 0"),
     Case("slots record fresh 5", 1, "refused 31 at 0"),
     Case("slots record fresh 257", 1, "refused 31 at 0"),
-    Case("slots record show", 0, "current b\na tries 2\nb tries 3"),
+    Case("slots record show", 0, "current b startable 2\na tries 2\nb tries 3"),
     Case("slots record corrupted a", 0, "ok"),
     Case("slots record corrupted c", 1, "refused 32 at 0"),
-    Case("slots record show", 0, "current b\na tries 2 corrupted\nb tries 3"),
+    Case("slots record show", 0, "current b startable 1\na tries 2 corrupted\nb tries 3"),
+    Case("slots record status", 0, "slot a: corrupted\nslot b: current, three tries\nslot c: not in use\n"
+         "slot d: not in use\none of two slots in use is neither unbootable nor corrupted"),
+    Case("slots record status a", 2, ""),
     Case("slots record modified", 2, ""),
     Case("slots record corrupted", 2, ""),
     Case("slots record corrupted 0", 2, ""),
@@ -327,12 +335,17 @@ CASES = (
     Case("slots long fresh 2", 2, ""),
     Case("slots none2 fresh 1", 0, "ok"),
     Case("slots missing start", 3, ""),
+    Case("slots missing status", 3, ""),
     Case("slots odd start", 1, "refused 31 at 0"),
     Case("slots odd show", 1, "refused 31 at 0"),
     Case("slots flat start", 1, "refused 31 at 0"),
     Case("slots ends start", 0, "starts b"),
-    Case("slots old start", 1, "refused 31 at 0"),
-    Case("slots old fresh 2", 2, ""),
+    Case("slots miscounted start", 1, "refused 31 at 0"),
+    Case("slots miscounted status", 1, "refused 31 at 0"),
+    Case("slots old21 start", 1, "refused 31 at 0"),
+    Case("slots old21 fresh 2", 2, ""),
+    Case("slots old17 start", 1, "refused 31 at 0"),
+    Case("slots old17 fresh 2", 2, ""),
     Case("strange p2", 2, ""),
     Case("", 2, ""),
 )
@@ -350,7 +363,9 @@ LEFT: Dict[str, bytes] = {
     "small": build.sparse_image(4096, []),
     "odd": FILES["odd"],
     "ends": record_of("11000 10100", "b"),
-    "old": FILES["old"],
+    "miscounted": FILES["miscounted"],
+    "old21": FILES["old21"],
+    "old17": FILES["old17"],
     "record": record_of("10012 10003 00003 00003", "b"),
 }
 
@@ -1355,13 +1370,16 @@ TURNS: Tuple[Tuple[str, bytes, str, bytes], ...] = (
     ("confirm", record_of("10113"), "refused 33 at 0", record_of("10113")),
     ("confirm", record_of("11013"), "refused 33 at 0", record_of("11013")),
     ("confirm", record_of("10001 10112"), "ok", record_of("10101 10112")),
-    ("fresh 2", record_of("10112 10112"), "ok", record_of("10003 10003 00003 00003")),
+    ("fresh 1", record_of("10112 10112"), "ok", record_of("10003 00003 00003 00003", startable=1)),
+    ("fresh 2", record_of("10112 10112"), "ok", record_of("10003 10003 00003 00003", startable=2)),
+    ("fresh 3", record_of("10003 10003", startable=7), "ok", record_of("10003 10003 10003 00003", startable=3)),
+    ("fresh 4", record_of("12003"), "ok", record_of("10003 10003 10003 10003", startable=4)),
     ("fresh 0", record_of("10112 10112"), "refused 31 at 0", record_of("10112 10112")),
 )
 
 
-def corrupted_slots(tool: Tool) -> None:
-    """What each operation says of a record with the flag, and what it leaves; the object says the same."""
+def slot_turns(tool: Tool) -> None:
+    """What each operation says of a record, and what it leaves; the object says the same."""
     for words, before, said, after in TURNS:
         refused = said.startswith("refused")
         save("tried", before)
@@ -1379,72 +1397,188 @@ def corrupted_slots(tool: Tool) -> None:
 
 
 def flags_shown(tool: Tool) -> None:
-    """The flags of slots in use are shown, in text those that are set."""
+    """The count and the flags of slots in use are shown, in text those that are set."""
     save("tried", record_of("10112 11014 00117 10100", "b"))
     done = tool.run("slots tried show")
-    lines = "current b\na tries 2 successful corrupted\nb tries 4 unbootable corrupted\nd tries 0 successful\n"
-    expect(done.stdout == lines and done.returncode == 0, "what is shown", done)
+    lines = "a tries 2 successful corrupted\nb tries 4 unbootable corrupted\nd tries 0 successful\n"
+    expect(done.stdout == "current b startable 1\n" + lines and done.returncode == 0, "what is shown", done)
     told = json.loads(tool.run("slots tried show --json").stdout)
     names = ("slot", "tries", "unbootable", "successful", "corrupted")
     slots = (("a", 2, False, True, True), ("b", 4, True, False, True), ("d", 0, False, True, False))
-    expect(told["current"] == "b" and told["slots"] == [dict(zip(names, slot)) for slot in slots], f"{told}")
+    expect((told["current"], told["startable"]) == ("b", 1), f"{told}")
+    expect(told["slots"] == [dict(zip(names, slot)) for slot in slots], f"{told}")
+
+
+# A record, the states of its slots in words, and the count in words.
+STATES: Tuple[Tuple[bytes, Tuple[str, str, str, str], str], ...] = (
+    (record_of("10003"), ("current, three tries", "not in use", "not in use", "not in use"),
+     "one of one slot in use is"),
+    (record_of("11000"), ("current, unbootable", "not in use", "not in use", "not in use"),
+     "zero of one slot in use are"),
+    (record_of("10112 11017 00117 10100", "d"),
+     ("successful, corrupted", "unbootable, corrupted", "not in use", "current, successful, zero tries"),
+     "one of three slots in use is"),
+    (record_of("11003 10001 10007 10104", "b"),
+     ("unbootable", "current, one try", "seven tries", "successful, four tries"), "three of four slots in use are"),
+    (record_of("00109 10002 10105 10006", "c"),
+     ("not in use", "two tries", "current, successful, five tries", "six tries"), "three of three slots in use are"),
+    (record_of("10013 10112", "b"), ("corrupted", "current, successful, corrupted", "not in use", "not in use"),
+     "zero of two slots in use are"),
+)
+
+
+def states_in_words(tool: Tool) -> None:
+    """Status says how each slot stands, and the count; the object has the numbers and flags."""
+    for record, states, count in STATES:
+        save("tried", record)
+        lines = [f"slot {letter}: {state}" for letter, state in zip("abcd", states)]
+        done = tool.run("slots tried status")
+        text = "\n".join([*lines, f"{count} neither unbootable nor corrupted\n"])
+        expect(done.stdout == text and done.returncode == 0 and not done.stderr, f"the status of {record!r}", done)
+        told, shown = (json.loads(tool.run(f"slots tried {words} --json").stdout) for words in ("status", "show"))
+        expect(told["used"] == len(told["slots"]) == 4 - states.count("not in use"), f"{told}")
+        currents = [slot["slot"] for slot in told["slots"] if slot.pop("current")]
+        expect(currents == [told["current"]] and told["startable"] == record[21], f"{told}")
+        expect({name: told[name] for name in shown} == shown, f"{told} and {shown}")
+        expect(read("tried") == record, "a record that is looked at is changed")
+
+
+def counts_in_words(tool: Tool) -> None:
+    """Every count of so many slots in use is said, and is the one that the record keeps."""
+    names = ("zero", "one", "two", "three", "four")
+    for used, startable in ((used, startable) for used in range(1, 5) for startable in range(used + 1)):
+        save("tried", record_of("10000" * startable + "11000" * (used - startable), startable=startable))
+        done = tool.run("slots tried status")
+        count = f"{names[startable]} of {names[used]} slot{'s' * (used > 1)} in use {'is' if startable == 1 else 'are'}"
+        expect(done.stdout.endswith(f"\n{count} neither unbootable nor corrupted\n"), count, done)
+        told = json.loads(tool.run("slots tried status --json").stdout)
+        expect((told["startable"], told["used"]) == (startable, used), f"{told}")
+        done = tool.run("slots tried show")
+        expect(done.stdout.startswith(f"current a startable {startable}\n"), f"{startable} in short", done)
 
 
 INVALID = "refused 31 at 0\ninvalid slot record, or a fresh record for a number of slots not 1 to 4\n"
-OLD_IS = ("is a slot record of 17 bytes, as tarpaulark 0.4.0 and before made it, without the flag corrupted;"
-          " to make a new one of it, see NOTES in the man page")
-OPERATIONS = ("show", "start", "confirm", "set-active a", "modified b", "corrupted a", "corrupted e")
+OLD_IS = ("is a slot record of {} bytes, as tarpaulark {} made it, without {}; to make a new one of it, see NOTES in"
+          " the man page")
+OLD_LENGTHS = {
+    21: OLD_IS.format(21, "0.5.0 and 0.6.0", "the count of startable slots"),
+    17: OLD_IS.format(17, "0.4.0 and before", "the flag corrupted and the count of startable slots"),
+}
+OPERATIONS = ("show", "status", "start", "confirm", "set-active a", "modified b", "corrupted a", "corrupted e")
 
 
-def expect_no_record(tool: Tool, data: bytes, advice: str, misuse: str) -> None:
-    """Every operation refuses a file, with the advice that is named, or none; no record is made in its place."""
+@contextlib.contextmanager
+def left_alone(data: bytes) -> Iterator[None]:
+    """A file that is neither changed nor replaced meanwhile."""
     save("tried", data)
     before = os.stat("tried")
+    yield
+    after = os.stat("tried")
+    expect(read("tried") == data and (after.st_ino, after.st_mtime_ns) == (before.st_ino, before.st_mtime_ns),
+           f"{data!r} is changed")
+
+
+def expect_invalid(tool: Tool, advice: str) -> None:
+    """Every operation refuses the file, with the advice that is named, or none."""
     for words in OPERATIONS:
         done, told = tool.run(f"slots tried {words}"), tool.run(f"slots tried {words} --json")
         expect(done.returncode == 1 and done.stdout == "" and done.stderr == INVALID + advice, words, done)
         found = json.loads(told.stdout)
         expect(found["number"] == 31 and found["status"] == 1 and told.stderr == "", words, told)
         expect(found.get("record", "") == advice.rstrip("\n"), f"{words}: the advice", told)
-    for words in ("fresh 2", "fresh 5"):
-        done, told = tool.run(f"slots tried {words}"), tool.run(f"slots tried {words} --json")
-        expect(done.returncode == 2 and done.stderr == f"tarpaulark: tried: {misuse}\n", words, done)
-        found = json.loads(told.stdout)
-        expect(found["words"] == misuse and found["status"] == 2 and told.stderr == "", words, told)
-    after = os.stat("tried")
-    expect(read("tried") == data and (after.st_ino, after.st_mtime_ns) == (before.st_ino, before.st_mtime_ns),
-           f"a file of {len(data)} bytes is changed")
+
+
+def expect_no_record(tool: Tool, data: bytes, advice: str, misuse: str) -> None:
+    """Every operation refuses a file, and no record is made in its place."""
+    with left_alone(data):
+        expect_invalid(tool, advice)
+        for words in ("fresh 2", "fresh 5"):
+            done, told = tool.run(f"slots tried {words}"), tool.run(f"slots tried {words} --json")
+            expect(done.returncode == 2 and done.stderr == f"tarpaulark: tried: {misuse}\n", words, done)
+            found = json.loads(told.stdout)
+            expect(found["words"] == misuse and found["status"] == 2 and told.stderr == "", words, told)
+
+
+def wrong_counts(tool: Tool) -> None:
+    """A record whose count differs from its flags is refused by every operation and left alone."""
+    for places, current, counts in (
+        ("10003 10003 00003 00003", "a", (0, 1, 3, 4, 255)),
+        ("10102 11014 10013 10000", "d", (1, 3)),
+        ("11000 00003 00003 00003", "a", (1, 4)),
+        ("10003 10003 10003 10003", "b", (3, 5)),
+    ):
+        for count in counts:
+            with left_alone(record_of(places, current, count)):
+                expect_invalid(tool, "")
+        save("tried", record_of(places, current))
+        expect_end(tool.run("slots tried start"), 0)
 
 
 def old_records(tool: Tool) -> None:
-    """A record of the old length is left alone, whatever it holds, and it is said what it is."""
-    for data in (FILES["old"], bytes(17), b"\xFF" * 17, TRIED[:17]):
-        expect_no_record(tool, data, f"by its length this {OLD_IS}\n",
-                         f"is there already and by its length {OLD_IS}; else name another file, or remove it")
+    """A record of an old length is left alone, whatever it holds, and it is said what it is."""
+    for length, words in OLD_LENGTHS.items():
+        for data in (FILES[f"old{length}"], bytes(length), b"\xFF" * length, TRIED[:length]):
+            expect_no_record(tool, data, f"by its length this {words}\n",
+                             f"is there already and by its length {words}; else name another file, or remove it")
 
 
 def other_lengths(tool: Tool) -> None:
     """A file of any other length is left alone, too."""
-    for length in (1, 16, 18, 20, 22, 42):
+    for length in (1, 16, 18, 20, 23, 44):
         expect_no_record(tool, (TRIED * 2)[:length], "", f"is there already and is no record, which has {len(TRIED)}"
                          " bytes; name another file, or remove it")
 
 
+def recipes() -> Dict[int, str]:
+    """What the man page tells to do with an old record, by its length."""
+    man = read(os.path.join(ROOT, "host", "tarpaulark.1")).decode("ascii").replace("\\-", "-").replace("\\e", "\\")
+    found = re.findall(r"^\.nf\n(set .*?)^\.fi$", man, re.MULTILINE | re.DOTALL)
+    scripts = dict(zip(OLD_LENGTHS, found))
+    expect(len(scripts) == len(found) == len(OLD_LENGTHS), f"the recipes {found}")
+    return scripts
+
+
+def expect_made(script: str, old: bytes, new: Optional[bytes]) -> None:
+    """A recipe makes this record, or none."""
+    with contextlib.suppress(FileNotFoundError):
+        os.remove("NEW")
+    save("OLD", old)
+    done = subprocess.run(["sh", "-e", "-c", script], capture_output=True, text=True, check=False)
+    expect(done.returncode == (1 if new is None else 0) and read("OLD") == old, script, done)
+    expect(os.path.exists("NEW") == (new is not None), f"made of {old!r}", done)
+    expect(new is None or read("NEW") == new, f"not {new!r} is made of {old!r}", done)
+
+
 def old_made_new(tool: Tool) -> None:
     """What the man page tells to do makes a new record of an old one."""
-    man = read(os.path.join(ROOT, "host", "tarpaulark.1")).decode("ascii")
-    found = re.search(r"^\.nf\n(\{ for .*?)^\.fi$", man, re.MULTILINE | re.DOTALL)
-    assert found is not None
-    script = found.group(1).replace("\\-", "-").replace("\\(aq", "'").replace("\\e", "\\")
-    for old, new in (
-        (bytes(range(17)), bytes([0, 1, 2, 0, 3, 4, 5, 6, 0, 7, 8, 9, 10, 0, 11, 12, 13, 14, 0, 15, 16])),
-        (FILES["old"], record_of("10102 11000 00003 00003")),
+    scripts = recipes()
+    for length, new, lines in (
+        (21, record_of("10102 11000 10013 10003", startable=2),
+         "current a startable 2\na tries 2 successful\nb tries 0 unbootable\nc tries 3 corrupted\nd tries 3\n"),
+        (17, record_of("10102 11000 00003 00003", startable=1),
+         "current a startable 1\na tries 2 successful\nb tries 0 unbootable\n"),
     ):
-        save("OLD", old)
-        expect(subprocess.run(["sh", "-e", "-c", script], check=False).returncode == 0, script)
-        expect(read("NEW") == new and read("OLD") == old, f"{read('NEW')!r} is made of {old!r}")
-    done = tool.run("slots NEW show")
-    expect(done.stdout == "current a\na tries 2 successful\nb tries 0 unbootable\n", "the new record", done)
+        expect_made(scripts[length], FILES[f"old{length}"], new)
+        done = tool.run("slots NEW show")
+        expect(done.stdout == lines, "the new record", done)
+    rng = random.Random(6)
+    for _ in range(64):
+        places = ["".join(str(rng.randrange(2)) for _ in range(4)) + str(rng.randrange(8)) for _ in range(4)]
+        new = record_of("".join(places), rng.choice("abcd"))
+        expect_made(scripts[21], new[:21], new)
+        new = record_of("".join(place[:3] + "0" + place[4] for place in places), rng.choice("abcd"))
+        expect_made(scripts[17], bytes(byte for at, byte in enumerate(new[:21]) if at == 20 or at % 5 != 3), new)
+
+
+def old_of_any_bytes(_tool: Tool) -> None:
+    """It keeps bytes that no record has, and makes nothing of a file of another length."""
+    scripts = recipes()
+    expect_made(scripts[21], bytes(range(30, 51)), bytes(range(30, 51)) + b"\0")
+    slots = [bytes([at, at + 1, at + 2, 0, at + 3]) for at in range(240, 256, 4)]
+    expect_made(scripts[17], bytes(range(240, 256)) + b"%", b"".join(slots) + b"%\0")
+    for length in (0, 16, 17, 18, 20, 21, 22):
+        for other in set(scripts) - {length}:
+            expect_made(scripts[other], TRIED[:length], None)
 
 
 # What people look for.
@@ -1477,7 +1611,7 @@ def same_words(tool: Tool) -> None:
     told = tool.run("--help").stdout
     usages = re.findall(r"^ *(?:usage:)? tarpaulark (.*)$", told, re.MULTILINE)
     statuses = re.findall(r"^(?:Exit status:)? +([0-4]) (.*)$", told, re.MULTILINE)
-    expect(len(usages) == 12 and len(statuses) == 5, f"the help {told}")
+    expect(len(usages) == 13 and len(statuses) == 5, f"the help {told}")
     man = text_of_man(read(os.path.join(ROOT, "host", "tarpaulark.1")).decode("ascii"))
     readme = read(os.path.join(ROOT, "README.md")).decode("utf-8")
     for usage in usages:
@@ -1534,8 +1668,8 @@ def same_in_json(tool: Tool) -> None:
                   "list strange", "map kinds", "map p6", "diff p2 p7", "diff last next", "diff last next --map",
                   "diff nothing nothing", "diff p6 p2", "diff p2 kinds",
                   "write flat 8 image", "write flat 12 image", "sections boot", "sections flat",
-                  "slots tried show", "slots odd show", "slots old show", "slots tried corrupted a",
-                  "slots tried fresh 5", "slots tried fresh 3"):
+                  "slots tried show", "slots odd show", "slots old17 show", "slots old21 show", "slots tried status",
+                  "slots miscounted status", "slots tried corrupted a", "slots tried fresh 5", "slots tried fresh 3"):
         text, told = tool.run(words), tool.run(words + " --json")
         found = json.loads(told.stdout, object_pairs_hook=members)
         expect(told.returncode == text.returncode == found["status"] and told.stderr == "", words, told)
@@ -1683,7 +1817,8 @@ CHECKS: Tuple[Callable[[Tool], None], ...] = (
     shown_from_pipes, shown_from_files, told_on_terminals,
     compared_as_the_reference, refused_as_the_reference, told_of_refusals, compared_vast, compared_mixed,
     compared_in_svg, compared_at_length, no_memory,
-    corrupted_slots, flags_shown, old_records, other_lengths, old_made_new,
+    slot_turns, flags_shown, states_in_words, counts_in_words, wrong_counts, old_records, other_lengths, old_made_new,
+    old_of_any_bytes,
     help_and_version, same_words, not_printed, same_in_json, as_the_reference, names_of_any_bytes,
     two_names_of_any_bytes, long_images, mixed_cells,
 )

@@ -20,8 +20,10 @@ root=$folder/dest/opt/t
 grep -q "tarpaulark $version" "$root/share/man/man1/tarpaulark.1" || die "the man page has another version"
 ! grep -rq '@[A-Z]*@' "$root/lib/pkgconfig" "$root/share/man" || die "a place is left to be filled in"
 
-# An image that is too short is refused with 1, which the header names. Of a fresh record slot b is set active and
-# confirmed, and a corrupted: their bytes and the current slot stand where the header says.
+# An image that is too short is refused with 1, which the header names. Of a fresh record of three slots b is set
+# active and confirmed, and a corrupted: their bytes, the current slot and the count stand where the header says, the
+# count last, and nothing past the record is touched; with another count it is refused. Two images are written and
+# compared: the runs, of a block and of two, stand where the header says.
 cat >"$folder/use.c" <<'END_C'
 #include <tarpaulark.h>
 
@@ -32,23 +34,58 @@ static int has(const uint8_t *slot, int successful, int corrupted)
         && slot[TARPAULARK_SLOT_TRIES] == 3;
 }
 
+static int use_count(uint8_t *record)
+{
+    uint64_t answer[TARPAULARK_STARTABLE_ANSWER];
+
+    if (tarpaulark_slots_startable(record, answer) != 0 || answer[TARPAULARK_SLOTS_STARTABLE] != 2
+        || record[TARPAULARK_RECORD_STARTABLE] != 2)
+        return 1;
+    record[TARPAULARK_RECORD_STARTABLE] = 3;
+    return tarpaulark_slots_valid(record) != TARPAULARK_BAD_RECORD
+        || tarpaulark_slots_startable(record, answer) != TARPAULARK_BAD_RECORD
+        || answer[TARPAULARK_SLOTS_STARTABLE] != 0 || record[TARPAULARK_RECORD_STARTABLE] != 3;
+}
+
 static int use_slots(void)
 {
-    uint8_t record[TARPAULARK_RECORD];
+    static uint8_t record[TARPAULARK_RECORD + 1];
     uint64_t answer[TARPAULARK_SLOTS_ANSWER];
 
-    if (tarpaulark_slots_fresh(2, record, answer) != 0 || tarpaulark_slots_set_active(record, 1, answer) != 0
+    record[TARPAULARK_RECORD] = 77;
+    if (tarpaulark_slots_fresh(3, record, answer) != 0 || tarpaulark_slots_set_active(record, 1, answer) != 0
         || tarpaulark_slots_confirm(record, answer) != 0 || tarpaulark_slots_corrupted(record, 0, answer) != 0)
         return 1;
     return answer[TARPAULARK_SLOTS_KIND] != TARPAULARK_DONE || record[TARPAULARK_RECORD_CURRENT] != 1
-        || !has(record, 0, 1) || !has(record + TARPAULARK_RECORD_SLOT, 1, 0);
+        || !has(record, 0, 1) || !has(record + TARPAULARK_RECORD_SLOT, 1, 0)
+        || !has(record + 2 * TARPAULARK_RECORD_SLOT, 0, 0) || record[TARPAULARK_RECORD - 1] != 2
+        || record[TARPAULARK_RECORD] != 77 || use_count(record);
+}
+
+static int use_images(void)
+{
+    static const uint8_t first[] = "same" "old1" "old2", second[] = "same" "new1" "new2";
+    static uint8_t images[2][TARPAULARK_WRITE_BOUND(12, 4)];
+    static uint32_t runs[2 * TARPAULARK_RUN];
+    const uint32_t *last = runs + TARPAULARK_RUN;
+    uint64_t answer[TARPAULARK_COMPARE_ANSWER], lengths[2][TARPAULARK_WRITE_ANSWER];
+
+    if (tarpaulark_write(first, 12, 4, images[0], sizeof images[0], lengths[0]) != 0
+        || tarpaulark_write(second, 12, 4, images[1], sizeof images[1], lengths[1]) != 0
+        || tarpaulark_compare(images[0], lengths[0][TARPAULARK_LENGTH], images[1], lengths[1][TARPAULARK_LENGTH], runs,
+                              2 * TARPAULARK_RUN, answer) != 0)
+        return 1;
+    return answer[TARPAULARK_IMAGE] != 0 || answer[TARPAULARK_RUNS] != 2
+        || runs[TARPAULARK_RUN_KIND] != TARPAULARK_EQUAL || last[TARPAULARK_RUN_FIRST] != 1
+        || last[TARPAULARK_RUN_BLOCKS] != 2 || last[TARPAULARK_RUN_KIND] != TARPAULARK_DIFFERENT;
 }
 
 int use(void)
 {
     uint64_t answer[TARPAULARK_JUDGE_ANSWER];
 
-    return tarpaulark_judge((const uint8_t *)TARPAULARK_VERSION, 5, 0, answer) != TARPAULARK_BAD_LENGTH || use_slots();
+    return tarpaulark_judge((const uint8_t *)TARPAULARK_VERSION, 5, 0, answer) != TARPAULARK_BAD_LENGTH || use_slots()
+        || use_images();
 }
 END_C
 echo 'int use(void); int main(void) { return use(); }' >"$folder/main.c"

@@ -118,6 +118,11 @@ static void slots_valid(void)
     got(tarpaulark_slots_valid(record));
 }
 
+static void slots_startable(void)
+{
+    got(tarpaulark_slots_startable(record, answer));
+}
+
 static void slots_fresh(void)
 {
     got(tarpaulark_slots_fresh(slot, record, answer));
@@ -169,6 +174,7 @@ static struct function {
     {"pass_store_finish", store_finish, true, 0},
     {"locate", locate, false, 0},
     {"slots_valid", slots_valid, false, 0},
+    {"slots_startable", slots_startable, false, 0},
     {"slots_fresh", slots_fresh, false, 0},
     {"slots_start", slots_start, false, 0},
     {"slots_set_active", slots_set_active, false, 0},
@@ -442,18 +448,28 @@ static void try_boot(void)
     }
 }
 
-/* Any record: flags that may be 0 or 1, tries up to 8, a current slot up to the place after d. */
+static bool is_startable(const uint8_t *at)
+{
+    return at[TARPAULARK_SLOT_USED] == 1 && at[TARPAULARK_SLOT_UNBOOTABLE] == 0 && at[TARPAULARK_SLOT_CORRUPTED] == 0;
+}
+
+/* Any record: flags that may be 0 or 1, tries up to 8, a current slot up to the place after d, and a count of startable
+   slots that in one of eight is one more. */
 static void make_record(void)
 {
     for (size_t i = 0; i < TARPAULARK_RECORD_CURRENT; i++)
         record[i] = (uint8_t)(rand() % (i % TARPAULARK_RECORD_SLOT == TARPAULARK_SLOT_TRIES ? 9 : 2));
     record[TARPAULARK_RECORD_CURRENT] = (uint8_t)(rand() % 5);
+    record[TARPAULARK_RECORD_STARTABLE] = rand() % 8 == 0;
+    for (size_t i = 0; i < TARPAULARK_RECORD_CURRENT; i += TARPAULARK_RECORD_SLOT)
+        record[TARPAULARK_RECORD_STARTABLE] += is_startable(record + i);
 }
 
 static void try_slots(void)
 {
     static void (*const operations[])(void) = {
-        slots_valid, slots_fresh, slots_start, slots_set_active, slots_modified, slots_corrupted, slots_confirm,
+        slots_valid, slots_startable, slots_fresh, slots_start, slots_set_active, slots_modified, slots_corrupted,
+        slots_confirm,
     };
 
     for (size_t i = 0; i < 2000; i++)

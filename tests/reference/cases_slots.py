@@ -1,4 +1,4 @@
-"""Groups `slots` and `slotsum`: the operations on slot records.
+"""Groups `slots` and `slotsum`: the operations on slot records, and the lamp's count.
 
 `slots` shows every case in full; `slotsum` takes many records, does every operation
 on each, and shows one checksum for each block of records.
@@ -11,14 +11,14 @@ from typing import Iterable, List, NamedTuple, Sequence, Tuple
 import crc
 import slots
 from cases_common import Group, below, pick
-from slots import Record, Slot
+from slots import Record, Slot, counted
 
-OPERATIONS = range(6)
-FRESH, START, SET_ACTIVE, MODIFIED, CONFIRM, CORRUPTED = OPERATIONS
+OPERATIONS = range(7)
+FRESH, START, SET_ACTIVE, MODIFIED, CONFIRM, CORRUPTED, STARTABLE = OPERATIONS
 DONE, BOOTS, RECOVERY, REFUSED = range(4)
 BLOCK = 64
 SUM_ARGUMENTS = range(5)
-SUM_RANDOM = 8100
+SUM_RANDOM = 8700
 
 FLAGS = tuple(itertools.product((False, True), repeat=3))
 VALID_FLAGS = tuple(flags for flags in FLAGS if flags[:2] != (True, True))
@@ -44,13 +44,13 @@ class Case(NamedTuple):
 
 
 def record_values(record: Record) -> Tuple[int, ...]:
-    """The 21 values of a record: five of each place, then the current slot."""
+    """The 22 values of a record: five of each place, the current slot, the count."""
     places = [int(value) for slot in record.slots for value in slot]
-    return tuple(places + [record.current])
+    return tuple(places + [record.current, record.startable])
 
 
 def encoded(case: Case) -> bytes:
-    """The case as it stands in the file of `slots`: 23 bytes."""
+    """The case as it stands in the file of `slots`: 24 bytes."""
     return bytes((case.operation, case.argument) + record_values(case.record))
 
 
@@ -81,15 +81,23 @@ def answer_values(answer: slots.Answer) -> Tuple[int, int, int]:
     return 0, DONE, 0
 
 
+def lamp_values(record: Record) -> Tuple[int, int, int]:
+    """Refusal number, 0 and the count, which is 0 where it is refused."""
+    answer = slots.startable(record)
+    return (answer.number, 0, 0) if isinstance(answer, slots.Refusal) else (0, 0, answer)
+
+
 def values(case: Case) -> Tuple[int, ...]:
-    """The answer's three values and the 21 of the record after."""
+    """The answer's three values and the 22 of the record after."""
+    if case.operation == STARTABLE:
+        return lamp_values(case.record) + record_values(case.record)
     answer, record = performed(case)
     return answer_values(answer) + record_values(record)
 
 
 def on_record(record: Record, arguments: Iterable[int]) -> List[Case]:
     """Every operation but fresh on a record, with each slot argument."""
-    cases = [Case(START, 0, record), Case(CONFIRM, 0, record)]
+    cases = [Case(operation, 0, record) for operation in (START, CONFIRM, STARTABLE)]
     for argument in arguments:
         for operation in (SET_ACTIVE, MODIFIED, CORRUPTED):
             cases.append(Case(operation, argument, record))
@@ -99,8 +107,8 @@ def on_record(record: Record, arguments: Iterable[int]) -> List[Case]:
 def fresh_cases() -> List[Case]:
     """Fresh records for numbers of slots in and out of range, where flags stood before,
     the corrupted one among them or in all four places."""
-    mixed = Record((STRONG, GHOST, LOST, UNUSED), 2)
-    full = Record((DAMAGED, ODD, LOST, ODD), 2)
+    mixed = counted((STRONG, GHOST, LOST, UNUSED), 2)
+    full = counted((DAMAGED, ODD, LOST, ODD), 2)
     numbers = (0, 1, 2, 3, 4, 5, 6, 128, 255)
     return [Case(FRESH, number, record) for record in (mixed, full) for number in numbers]
 
@@ -110,17 +118,24 @@ def example_cases() -> List[Case]:
     weak = STRONG._replace(successful=False)
     last = NEW._replace(tries=1)
     return [
-        Case(START, 0, Record((TIRED, STRONG, UNUSED, UNUSED), 0)),
-        Case(START, 0, Record((TIRED, weak, UNUSED, UNUSED), 0)),
-        Case(START, 0, Record((last, UNUSED, UNUSED, UNUSED), 0)),
+        Case(START, 0, counted((TIRED, STRONG, UNUSED, UNUSED), 0)),
+        Case(START, 0, counted((TIRED, weak, UNUSED, UNUSED), 0)),
+        Case(START, 0, counted((last, UNUSED, UNUSED, UNUSED), 0)),
     ]
+
+
+def tries_cases() -> List[Case]:
+    """Start of a successful slot without tries, of one with the most tries, and of an
+    unbootable one with some."""
+    places = (STRONG._replace(tries=0), NEW._replace(tries=7), BROKEN._replace(tries=3), UNUSED)
+    return [Case(START, 0, counted(places, current)) for current in range(3)]
 
 
 def invalid_records() -> List[Record]:
     """Records with one fault; the current slot of some is corrupted beside it."""
-    records = [Record((NEW, STRONG, UNUSED, UNUSED), current) for current in (2, 3, 4, 5, 255)]
-    records += [Record((place,) * slots.PLACES, 0) for place in (UNUSED, ODD)]
-    records.append(Record((GHOST, NEW, LOST, GHOST), 3))
+    records = [counted((NEW, STRONG, UNUSED, UNUSED), current) for current in (2, 3, 4, 5, 255)]
+    records += [counted((place,) * slots.PLACES, 0) for place in (UNUSED, ODD)]
+    records.append(counted((GHOST, NEW, LOST, GHOST), 3))
     faults = (
         Slot(True, True, True, False, 3),
         Slot(True, True, True, True, 3),
@@ -129,9 +144,9 @@ def invalid_records() -> List[Record]:
     )
     for fault in faults:
         records += [
-            Record((fault, NEW, STRONG, NEW), 0),
-            Record((DAMAGED, fault, UNUSED, NEW), 0),
-            Record((NEW, STRONG, NEW, fault), 2),
+            counted((fault, NEW, STRONG, NEW), 0),
+            counted((DAMAGED, fault, UNUSED, NEW), 0),
+            counted((NEW, STRONG, NEW, fault), 2),
         ]
     return records
 
@@ -139,14 +154,14 @@ def invalid_records() -> List[Record]:
 def odd_records() -> List[Record]:
     """Valid records that look faulty, by their unused places or their current slot."""
     return [
-        Record((NEW, ODD, ODD, ODD), 0),
-        Record((ODD, NEW, ODD, ODD), 1),
-        Record((ODD, TIRED, ODD, STRONG), 1),
-        Record((UNUSED, UNUSED, UNUSED, TIRED), 3),
-        Record((GHOST, TIRED, GHOST, GHOST), 1),
-        Record((GHOST, NEW, BROKEN, GHOST), 2),
-        Record((STRONG, BROKEN, NEW, UNUSED), 1),
-        Record((BROKEN, BROKEN, UNUSED, UNUSED), 0),
+        counted((NEW, ODD, ODD, ODD), 0),
+        counted((ODD, NEW, ODD, ODD), 1),
+        counted((ODD, TIRED, ODD, STRONG), 1),
+        counted((UNUSED, UNUSED, UNUSED, TIRED), 3),
+        counted((GHOST, TIRED, GHOST, GHOST), 1),
+        counted((GHOST, NEW, BROKEN, GHOST), 2),
+        counted((STRONG, BROKEN, NEW, UNUSED), 1),
+        counted((BROKEN, BROKEN, UNUSED, UNUSED), 0),
     ]
 
 
@@ -155,13 +170,13 @@ def corrupted_records() -> List[Record]:
     with and without a candidate; corrupted slots that are not current; and such
     places that are not in use."""
     return [
-        Record((DAMAGED, STRONG, UNUSED, UNUSED), 0),
-        Record((NEW, DAMAGED, BROKEN, GHOST), 1),
-        Record((DAMAGED, LOST, SUSPECT, STRONG), 2),
-        Record((ODD, SUSPECT, DAMAGED, NEW), 1),
-        Record((LOST, DAMAGED, UNUSED, STRONG), 0),
-        Record((DAMAGED, GHOST, SUSPECT, LOST), 3),
-        Record((STRONG, DAMAGED, SUSPECT, LOST), 0),
+        counted((DAMAGED, STRONG, UNUSED, UNUSED), 0),
+        counted((NEW, DAMAGED, BROKEN, GHOST), 1),
+        counted((DAMAGED, LOST, SUSPECT, STRONG), 2),
+        counted((ODD, SUSPECT, DAMAGED, NEW), 1),
+        counted((LOST, DAMAGED, UNUSED, STRONG), 0),
+        counted((DAMAGED, GHOST, SUSPECT, LOST), 3),
+        counted((STRONG, DAMAGED, SUSPECT, LOST), 0),
     ]
 
 
@@ -173,19 +188,55 @@ def search_cases() -> List[Case]:
     for (stopped, passed), current in itertools.product(kinds, range(slots.PLACES)):
         for others in itertools.product((STRONG, passed), repeat=slots.PLACES - 1):
             places = others[:current] + (stopped,) + others[current:]
-            cases.append(Case(START, 0, Record(places, current)))
+            cases.append(Case(START, 0, counted(places, current)))
     return list(dict.fromkeys(cases))
 
 
-def group(rng: random.Random) -> Group:
+def count_records() -> List[Record]:
+    """02, CR 6: all slots startable, none, all but one, and some beside places that are not
+    in use and look startable or not."""
+    return [
+        counted((NEW, STRONG, TIRED, NEW), 2),
+        counted((DAMAGED, BROKEN, SUSPECT, LOST), 0),
+        counted((STRONG, SUSPECT, NEW, TIRED), 1),
+        counted((STRONG, GHOST, TIRED, ODD), 2),
+    ]
+
+
+def wrong_counts() -> List[Record]:
+    """Records whose count alone is wrong: one more and one less than their flags say, 255
+    being one less than 0; 4 for none, 0 for all, and others for some."""
+    records = [
+        record._replace(startable=(record.startable + step) % 256)
+        for record in count_records() for step in (1, -1)
+    ]
+    all_four, none, _, some = count_records()
+    records += [none._replace(startable=4), all_four._replace(startable=0)]
+    return records + [some._replace(startable=count) for count in (0, 4, 255)]
+
+
+def wrong_count_cases() -> List[Case]:
+    """Every operation on a record with a wrong count, also with a slot not in use and one
+    past d; the lamp where one bit is wrong.  Fresh does not look at the count, and its
+    refusal leaves it."""
+    cases = []
+    for record in wrong_counts():
+        cases += on_record(record, (2,)) + [Case(FRESH, number, record) for number in (3, 5)]
+    some = count_records()[-1]
+    cases += on_record(some._replace(startable=some.startable + 1), (1, 4))
+    bits = [some._replace(startable=some.startable ^ 1 << bit) for bit in range(8)]
+    return cases + [Case(STARTABLE, 0, record) for record in bits]
+
+
+def group(_rng: random.Random) -> Group:
     """The cases shown in full."""
-    cases = fresh_cases() + example_cases() + search_cases()
-    for record in odd_records() + corrupted_records():
-        cases += on_record(record, (0, 1, 2, 3, 4, 255))
-    for record in invalid_records():
-        cases += on_record(record, (0, 2, 4))
-    for _ in range(5):
-        cases += on_record(random_record(rng), range(5))
+    cases = fresh_cases() + example_cases() + tries_cases() + search_cases()
+    for record in odd_records() + corrupted_records() + count_records():
+        cases += on_record(record, range(slots.PLACES))
+    cases += on_record(corrupted_records()[1], (slots.PLACES, 255))
+    for i, record in enumerate(invalid_records()):
+        cases += on_record(record, ((i + 3) % slots.PLACES, slots.PLACES))
+    cases = list(dict.fromkeys(cases + wrong_count_cases()))
     return Group(b"".join(map(encoded, cases)), [values(case) for case in cases])
 
 
@@ -193,7 +244,7 @@ def two_slot_records() -> List[Record]:
     """Two used slots with all flags and tries 0, 1, 3, 7, 8; either is current."""
     places = [Slot(True, *flags, tries) for flags in FLAGS for tries in (0, 1, 3, 7, 8)]
     return [
-        Record((a, b, GHOST, ODD), current)
+        counted((a, b, GHOST, ODD), current)
         for a, b, current in itertools.product(places, places, (0, 1))
     ]
 
@@ -207,12 +258,21 @@ def random_slot(rng: random.Random) -> Slot:
     return Slot(True, *pick(rng, VALID_FLAGS), pick(rng, (0, 0, 1, 2, 3, 5, 7)))
 
 
+def near_count(rng: random.Random, count: int) -> int:
+    """Mostly one more or one less, or any count."""
+    near = (count + 1, count - 1)
+    return pick(rng, near + near + (below(rng, 6), below(rng, 256), count ^ 4)) % 256
+
+
 def random_record(rng: random.Random) -> Record:
-    """Any four places, mostly a valid record."""
+    """Any four places, mostly a valid record; one in eight keeps another count."""
     places = [random_slot(rng) for _ in range(slots.PLACES)]
     used = [i for i, slot in enumerate(places) if slot.used]
     current = pick(rng, used) if used and below(rng, 8) != 0 else below(rng, 6)
-    return Record((places[0], places[1], places[2], places[3]), current)
+    record = counted(places, current)
+    if below(rng, 8) != 0:
+        return record
+    return record._replace(startable=near_count(rng, record.startable))
 
 
 def every_case(record: Record) -> List[Case]:
@@ -224,7 +284,7 @@ def every_case(record: Record) -> List[Case]:
 
 
 def block_checksum(records: Sequence[Record]) -> int:
-    """The checksum of the 24 values, a byte each, of every case of each record."""
+    """The checksum of the 25 values, a byte each, of every case of each record."""
     cases = itertools.chain.from_iterable(map(every_case, records))
     return crc.checksum(b"".join(bytes(values(case)) for case in cases))
 

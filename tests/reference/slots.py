@@ -1,8 +1,8 @@
 """The slot record and its operations: document 01, "Slot record", and document 02,
-change request 4."""
+change requests 4 and 6."""
 
 from dataclasses import dataclass
-from typing import Any, NamedTuple, Optional, Tuple, Union
+from typing import Any, NamedTuple, Optional, Sequence, Tuple, Union
 
 PLACES = 4
 MOST_TRIES = 7
@@ -21,10 +21,13 @@ class Slot(NamedTuple):
 
 
 class Record(NamedTuple):
-    """01: "four slots of fixed place, used or not ... and one current slot"."""
+    """01: "four slots of fixed place, used or not ... and one current slot"; 02, CR 6:
+    "how many slots in use are neither unbootable nor corrupted. Keep that count in the
+    record."."""
 
     slots: Tuple[Slot, Slot, Slot, Slot]
     current: int
+    startable: int
 
 
 @dataclass(frozen=True)
@@ -59,33 +62,53 @@ def is_used(record: Record, slot: int) -> bool:
     return slot < PLACES and record.slots[slot].used
 
 
+def is_startable(slot: Slot) -> bool:
+    """02, CR 6: in use and "neither unbootable nor corrupted"; tries and successful do
+    not matter."""
+    return slot.used and not slot.unbootable and not slot.corrupted
+
+
+def count_of(places: Sequence[Slot]) -> int:
+    """How many of some places are startable, by their flags."""
+    return sum(1 for slot in places if is_startable(slot))
+
+
+def counted(places: Sequence[Slot], current: int) -> Record:
+    """The record of four places with the count of their flags."""
+    a, b, c, d = places
+    return Record((a, b, c, d), current, count_of(places))
+
+
 def is_valid(record: Record) -> bool:
     """01: "A valid record has a current slot in use, no used slot with tries above
     7, and none both unbootable and successful; unused places are ignored".  CR 4 of
-    02 adds nothing to it: a slot may be corrupted and successful."""
+    02 adds nothing to it: a slot may be corrupted and successful.  CR 6: "A record
+    whose count differs from its flags is invalid"."""
     used = [slot for slot in record.slots if slot.used]
     return (
         is_used(record, record.current)
         and all(slot.tries <= MOST_TRIES for slot in used)
         and not any(slot.unbootable and slot.successful for slot in used)
+        and record.startable == count_of(record.slots)
     )
 
 
 def with_slot(record: Record, index: int, slot: Slot) -> Record:
-    """The record with one place replaced."""
+    """The record with one place replaced; 02, CR 6: "Every operation keeps it right"."""
     places = record.slots[:index] + (slot,) + record.slots[index + 1:]
-    return record._replace(slots=places)
+    return counted(places, record.current)
 
 
 def fresh(number: int) -> Tuple[Answer, Record]:
     """01: "the first so many in use, current a, and in all four places flags clear
     and tries 3. Another number of slots gives 31 and a record with no slot in
-    use, current a, flags clear, tries 0."; 02, CR 4: "A fresh record has it clear"."""
+    use, current a, flags clear, tries 0."; 02, CR 4: "A fresh record has it clear".  All
+    slots in use are startable, beside the refusal none."""
     clear = Slot(False, False, False, False, NEW_TRIES)
     if not 1 <= number <= PLACES:
-        return Refusal(31), Record((clear._replace(tries=0),) * PLACES, 0)
-    places = tuple(clear._replace(used=i < number) for i in range(PLACES))
-    return Done(), Record(places, 0)
+        return Refusal(31), Record((clear._replace(tries=0),) * PLACES, 0, 0)
+    a, b, c, d = (clear._replace(used=i < number) for i in range(PLACES))
+    return Done(), Record((a, b, c, d), 0, number)
 
 
 def may_start(slot: Slot) -> bool:
@@ -176,3 +199,8 @@ def confirm(record: Record) -> Tuple[Answer, Record]:
     if current.unbootable or current.corrupted:
         return Refusal(33), record
     return Done(), with_slot(record, record.current, current._replace(successful=True))
+
+
+def startable(record: Record) -> Union[int, Refusal]:
+    """02, CR 6: "the lamp reads it": the kept count, or 31."""
+    return record.startable if is_valid(record) else Refusal(31)

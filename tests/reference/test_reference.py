@@ -1,4 +1,4 @@
-"""Holds the reference program against document 01, and 02's change requests 2 to 4.
+"""Holds the reference program against document 01, and 02's change requests 2 to 4 and 6.
 
 Run by `python3 tests/reference/test_reference.py`.
 """
@@ -7,7 +7,7 @@ import itertools
 import random
 import unittest
 import unittest.mock
-from typing import Callable, List, Optional, Sequence, Tuple
+from typing import Callable, Dict, Iterator, List, Optional, Sequence, Set, Tuple
 
 import boot
 import build
@@ -499,7 +499,7 @@ class TestMistakes(unittest.TestCase):
 
     def test_modified_keeps_unbootable(self) -> None:
         a, b = Slot(True, False, True, False, 3), Slot(True, True, False, False, 0)
-        record = Record((a, b, UNUSED, UNUSED), 0)
+        record = record_of((a, b, UNUSED, UNUSED), 0)
         answer, after = slots.modified(record, 1)
         self.assertEqual(answer, slots.Done())
         self.assertEqual(after.slots[1], Slot(True, True, False, False, 3))
@@ -508,10 +508,10 @@ class TestMistakes(unittest.TestCase):
 
     def test_successful_slot_keeps_its_tries(self) -> None:
         for tries in range(8):
-            record = Record((Slot(True, False, True, False, tries),) + (UNUSED,) * 3, 0)
+            record = record_of((Slot(True, False, True, False, tries),) + (UNUSED,) * 3, 0)
             self.assertEqual(slots.start(record), (slots.Boots(0), record))
         a, b = Slot(True, False, False, False, 0), Slot(True, False, True, False, 2)
-        answer, after = slots.start(Record((a, b, UNUSED, UNUSED), 0))
+        answer, after = slots.start(record_of((a, b, UNUSED, UNUSED), 0))
         self.assertEqual((answer, after.slots[1].tries), (slots.Boots(1), 2))
 
 
@@ -751,11 +751,25 @@ class TestBoot(unittest.TestCase):
 UNUSED = Slot(False, False, False, False, 0)
 SlotOperation = Callable[..., Tuple[slots.Answer, Record]]
 ON_SLOT: Tuple[SlotOperation, ...] = (slots.set_active, slots.modified, slots.corrupted)
+# Used, unbootable, successful, corrupted: the slots that are counted.
+COUNTED_FLAGS = ((True, False, False, False), (True, False, True, False))
+
+
+def record_of(places: Sequence[Slot], current: int) -> Record:
+    """A record with the right count."""
+    a, b, c, d = places
+    return Record((a, b, c, d), current, sum(slot[:4] in COUNTED_FLAGS for slot in places))
+
+
+def replaced(record: Record, index: int, slot: Slot) -> Record:
+    """The record with one place replaced, and the right count."""
+    places = record.slots[:index] + (slot,) + record.slots[index + 1:]
+    return record_of(places, record.current)
 
 
 class TestSlots(unittest.TestCase):
     def two(self, a: Slot, b: Slot, current: int = 0) -> Record:
-        return Record((a, b, UNUSED, UNUSED), current)
+        return record_of((a, b, UNUSED, UNUSED), current)
 
     def test_p12_p13(self) -> None:
         a, b = Slot(True, False, False, False, 0), Slot(True, False, True, False, 3)
@@ -784,7 +798,7 @@ class TestSlots(unittest.TestCase):
             self.assertEqual(record.current, 0)
             self.assertTrue(slots.is_valid(record))
         for number in (0, 5, 255):
-            self.assertEqual(slots.fresh(number), (slots.Refusal(31), Record((UNUSED,) * 4, 0)))
+            self.assertEqual(slots.fresh(number), (slots.Refusal(31), Record((UNUSED,) * 4, 0, 0)))
 
     def test_invalid(self) -> None:
         good = Slot(True, False, False, False, 3)
@@ -805,12 +819,12 @@ class TestSlots(unittest.TestCase):
 
     def test_unused_places_are_ignored_and_kept(self) -> None:
         good, odd = Slot(True, False, False, False, 3), Slot(False, True, True, True, 200)
-        record = Record((odd, good, odd, odd), 1)
+        record = record_of((odd, good, odd, odd), 1)
         answer, after = slots.start(record)
         self.assertEqual(answer, slots.Boots(1))
-        self.assertEqual(after, Record((odd, good._replace(tries=2), odd, odd), 1))
+        self.assertEqual(after, record_of((odd, good._replace(tries=2), odd, odd), 1))
         strong = Slot(False, False, True, False, 3)
-        empty = Record((strong, good._replace(tries=0), strong, strong), 1)
+        empty = record_of((strong, good._replace(tries=0), strong, strong), 1)
         self.assertEqual(slots.start(empty)[0], slots.Recovery())
 
     def test_unbootable_slot_never_starts(self) -> None:
@@ -824,11 +838,11 @@ class TestSlots(unittest.TestCase):
 
     def test_search_is_in_letter_order(self) -> None:
         tired, strong = Slot(True, False, False, False, 0), Slot(True, False, True, False, 0)
-        record = Record((strong, strong, tired, strong), 2)
+        record = record_of((strong, strong, tired, strong), 2)
         self.assertEqual(slots.start(record)[0], slots.Boots(0))
-        record = Record((tired, strong, tired, strong), 2)
+        record = record_of((tired, strong, tired, strong), 2)
         self.assertEqual(slots.start(record)[0], slots.Boots(1))
-        record = Record((tired, tired, tired, strong), 2)
+        record = record_of((tired, tired, tired, strong), 2)
         self.assertEqual(slots.start(record)[0], slots.Boots(3))
 
     def test_slot_refusals(self) -> None:
@@ -862,37 +876,37 @@ class TestCorruptedSlots(unittest.TestCase):
         """Whatever else a slot is; it makes no record invalid."""
         for slot in (CORRUPTED, CORRUPTED_SURE, CORRUPTED_DEAD):
             for i in range(4):
-                record = slots.with_slot(Record((GOOD,) * 4, 0), i, slot)
+                record = replaced(record_of((GOOD,) * 4, 0), i, slot)
                 self.assertTrue(slots.is_valid(record))
-        self.assertTrue(slots.is_valid(Record((CORRUPTED_SURE,) * 4, 3)))
+        self.assertTrue(slots.is_valid(record_of((CORRUPTED_SURE,) * 4, 3)))
 
     def test_unbootable_and_successful_stays_invalid(self) -> None:
         both = CORRUPTED_SURE._replace(unbootable=True)
-        record = Record((GOOD, both, UNUSED, UNUSED), 0)
+        record = record_of((GOOD, both, UNUSED, UNUSED), 0)
         for answer in (slots.start(record), slots.confirm(record), slots.corrupted(record, 0)):
             self.assertEqual(answer, (slots.Refusal(31), record))
-        unused = Record((GOOD, both._replace(used=False), UNUSED, UNUSED), 0)
+        unused = record_of((GOOD, both._replace(used=False), UNUSED, UNUSED), 0)
         self.assertTrue(slots.is_valid(unused))
 
     def test_successful_current_slot_does_not_start(self) -> None:
         """It is marked, its successful flag clears, corrupted and tries stay."""
-        record = Record((CORRUPTED_SURE, SURE, UNUSED, UNUSED), 0)
-        after = Record((CORRUPTED_DEAD, SURE, UNUSED, UNUSED), 1)
+        record = record_of((CORRUPTED_SURE, SURE, UNUSED, UNUSED), 0)
+        after = record_of((CORRUPTED_DEAD, SURE, UNUSED, UNUSED), 1)
         self.assertEqual(slots.start(record), (slots.Boots(1), after))
 
     def test_current_slot_with_tries_does_not_start(self) -> None:
         """It loses no try."""
         for tries in range(8):
             slot = CORRUPTED._replace(tries=tries)
-            record = Record((SURE, UNUSED, slot, UNUSED), 2)
-            after = Record((SURE, UNUSED, slot._replace(unbootable=True), UNUSED), 0)
+            record = record_of((SURE, UNUSED, slot, UNUSED), 2)
+            after = record_of((SURE, UNUSED, slot._replace(unbootable=True), UNUSED), 0)
             self.assertEqual(slots.start(record), (slots.Boots(0), after))
 
     def test_recovery_keeps_the_marks(self) -> None:
         """Without a candidate; started again, the answer is the same and nothing changes."""
         for slot in (CORRUPTED, CORRUPTED_SURE, CORRUPTED_DEAD):
-            record = Record((GOOD, slot, DEAD, UNUSED), 1)
-            after = Record((GOOD, CORRUPTED_DEAD, DEAD, UNUSED), 1)
+            record = record_of((GOOD, slot, DEAD, UNUSED), 1)
+            after = record_of((GOOD, CORRUPTED_DEAD, DEAD, UNUSED), 1)
             self.assertEqual(slots.start(record), (slots.Recovery(), after))
             self.assertEqual(slots.start(after), (slots.Recovery(), after))
 
@@ -901,15 +915,15 @@ class TestCorruptedSlots(unittest.TestCase):
         for current, corrupted in itertools.permutations(range(4), 2):
             places = [SURE] * 4
             places[current], places[corrupted] = TIRED, CORRUPTED_SURE
-            answer, after = slots.start(Record(tuple(places), current))
+            answer, after = slots.start(record_of(tuple(places), current))
             places[current] = TIRED._replace(unbootable=True)
             first = next(i for i in range(4) if places[i] == SURE)
-            self.assertEqual((answer, after), (slots.Boots(first), Record(tuple(places), first)))
-        record = Record((CORRUPTED_SURE,) * 3 + (TIRED,), 3)
+            self.assertEqual((answer, after), (slots.Boots(first), record_of(tuple(places), first)))
+        record = record_of((CORRUPTED_SURE,) * 3 + (TIRED,), 3)
         self.assertEqual(slots.start(record)[0], slots.Recovery())
 
     def test_not_current_keeps_its_flags(self) -> None:
-        record = Record((SURE, CORRUPTED_SURE, CORRUPTED, CORRUPTED_DEAD), 0)
+        record = record_of((SURE, CORRUPTED_SURE, CORRUPTED, CORRUPTED_DEAD), 0)
         self.assertEqual(slots.start(record), (slots.Boots(0), record))
         self.assertEqual(slots.confirm(record), (slots.Done(), record))
 
@@ -917,28 +931,28 @@ class TestCorruptedSlots(unittest.TestCase):
         """On any slot in use, current or not; where it is set already, it is done again."""
         for slot in (GOOD, SURE, TIRED, DEAD, CORRUPTED, CORRUPTED_SURE, CORRUPTED_DEAD):
             for i, current in itertools.product(range(4), range(4)):
-                record = slots.with_slot(Record((GOOD,) * 4, current), i, slot)
-                after = slots.with_slot(record, i, slot._replace(corrupted=True))
+                record = replaced(record_of((GOOD,) * 4, current), i, slot)
+                after = replaced(record, i, slot._replace(corrupted=True))
                 self.assertEqual(slots.corrupted(record, i), (slots.Done(), after))
                 self.assertEqual(slots.corrupted(after, i), (slots.Done(), after))
 
     def test_set_active_clears_it(self) -> None:
         for slot in (CORRUPTED._replace(tries=0), CORRUPTED_SURE, CORRUPTED_DEAD):
-            record = Record((CORRUPTED_SURE, slot, UNUSED, UNUSED), 0)
-            after = Record((CORRUPTED_SURE, GOOD, UNUSED, UNUSED), 1)
+            record = record_of((CORRUPTED_SURE, slot, UNUSED, UNUSED), 0)
+            after = record_of((CORRUPTED_SURE, GOOD, UNUSED, UNUSED), 1)
             self.assertEqual(slots.set_active(record, 1), (slots.Done(), after))
 
     def test_modified_clears_it(self) -> None:
         """But not unbootable."""
         tired = CORRUPTED._replace(tries=0)
         for slot, changed in ((tired, GOOD), (CORRUPTED_SURE, GOOD), (CORRUPTED_DEAD, DEAD)):
-            record = Record((CORRUPTED_SURE, slot, UNUSED, UNUSED), 0)
-            after = Record((CORRUPTED_SURE, changed, UNUSED, UNUSED), 0)
+            record = record_of((CORRUPTED_SURE, slot, UNUSED, UNUSED), 0)
+            after = record_of((CORRUPTED_SURE, changed, UNUSED, UNUSED), 0)
             self.assertEqual(slots.modified(record, 1), (slots.Done(), after))
 
     def test_confirming_gives_33(self) -> None:
         for slot in (CORRUPTED, CORRUPTED_SURE, CORRUPTED_DEAD):
-            record = Record((GOOD, slot, UNUSED, UNUSED), 1)
+            record = record_of((GOOD, slot, UNUSED, UNUSED), 1)
             self.assertEqual(slots.confirm(record), (slots.Refusal(33), record))
             broken = record._replace(slots=(GOOD._replace(tries=8),) + record.slots[1:])
             self.assertEqual(slots.confirm(broken), (slots.Refusal(31), broken))
@@ -950,7 +964,7 @@ class TestCorruptedSlots(unittest.TestCase):
             self.assertEqual([slot.corrupted for slot in record.slots], [False] * 4)
 
     def test_31_then_32(self) -> None:
-        valid = Record((GOOD, UNUSED, CORRUPTED, UNUSED), 2)
+        valid = record_of((GOOD, UNUSED, CORRUPTED, UNUSED), 2)
         invalid = valid._replace(current=1)
         for slot in (1, 3, 4, 255, 256, 2**32 - 1):
             self.assertEqual(slots.corrupted(valid, slot), (slots.Refusal(32), valid))
@@ -959,15 +973,15 @@ class TestCorruptedSlots(unittest.TestCase):
 
     def test_unused_places_are_ignored_and_kept(self) -> None:
         odd, dead = Slot(False, True, True, True, 200), TIRED._replace(unbootable=True)
-        record = Record((odd, SURE, odd, TIRED), 3)
-        after = Record((odd, SURE, odd, dead), 1)
+        record = record_of((odd, SURE, odd, TIRED), 3)
+        after = record_of((odd, SURE, odd, dead), 1)
         self.assertEqual(slots.start(record), (slots.Boots(1), after))
-        after = Record((odd, CORRUPTED_SURE, odd, TIRED), 3)
+        after = record_of((odd, CORRUPTED_SURE, odd, TIRED), 3)
         self.assertEqual(slots.corrupted(record, 1), (slots.Done(), after))
 
     def test_a_slot_is_repaired(self) -> None:
         """Corrupted while it runs, given up, written anew, made active, confirmed."""
-        _, record = slots.corrupted(Record((SURE, SURE, UNUSED, UNUSED), 0), 0)
+        _, record = slots.corrupted(record_of((SURE, SURE, UNUSED, UNUSED), 0), 0)
         answer, record = slots.start(record)
         self.assertEqual((answer, record.slots[0]), (slots.Boots(1), CORRUPTED_DEAD))
         _, record = slots.modified(record, 0)
@@ -989,6 +1003,7 @@ class TestSlotStatements(unittest.TestCase):
             self.assertEqual(after, record)
             return
         self.assertTrue(slots.is_valid(record) and slots.is_valid(after))
+        self.assertEqual(after, record_of(after.slots, after.current))
         if of not in (slots.start, slots.set_active):
             self.assertEqual(after.current, record.current)
         if isinstance(answer, slots.Boots):
@@ -1021,11 +1036,194 @@ class TestSlotStatements(unittest.TestCase):
         places = [Slot(True, *state, tries) for state in flags for tries in (0, 1, 3, 7, 8)]
         odd = Slot(False, False, True, True, 9)
         for a, b, current in itertools.product(places, places, (0, 2)):
-            record = Record((a, odd, b, UNUSED), current)
+            record = record_of((a, odd, b, UNUSED), current)
             self.check(record, None, slots.start)
             self.check(record, None, slots.confirm)
             for slot, operation in itertools.product((0, 1, 2, 4), ON_SLOT):
                 self.check(record, slot, operation)
+
+
+def every_operation(record: Record, slot: int) -> Iterator[Tuple[slots.Answer, Record]]:
+    """Each operation on a record, those on a slot with this one."""
+    for operation in (slots.start, slots.confirm):
+        yield operation(record)
+    for operation in ON_SLOT:
+        yield operation(record, slot)
+
+
+class TestStartableCount(unittest.TestCase):
+    """02, CR 6, sentence by sentence."""
+
+    def check_step(self, step: int, answered: Tuple[slots.Answer, Record], before: Record) -> None:
+        """A record with the right count, so much above the one before; the lamp reads it."""
+        answer, after = answered
+        self.assertNotIsInstance(answer, slots.Refusal)
+        self.assertEqual(after, record_of(after.slots, after.current))
+        self.assertEqual(after.startable, before.startable + step)
+        self.assertEqual(slots.startable(after), after.startable)
+
+    def test_in_use_and_neither_unbootable_nor_corrupted(self) -> None:
+        """At each place, with any tries, successful or not."""
+        for flags in itertools.product((False, True), repeat=4):
+            used, unbootable, successful, corrupted = flags
+            is_faulty = used and unbootable and successful
+            count = 1 + (used and not unbootable and not corrupted)
+            for i, tries in itertools.product(range(1, 4), (0, 3, 7)):
+                places = [GOOD, UNUSED, UNUSED, UNUSED]
+                places[i] = Slot(*flags, tries)
+                found = slots.startable(Record(tuple(places), 0, count))
+                self.assertEqual(found, slots.Refusal(31) if is_faulty else count)
+
+    def test_tired_slot_counts(self) -> None:
+        """One that may not start now, as long as it is not marked."""
+        self.assertEqual(slots.startable(Record((TIRED, TIRED, UNUSED, UNUSED), 0, 2)), 2)
+
+    def test_lamp(self) -> None:
+        for places, count in (
+            ((GOOD, SURE, TIRED, GOOD), 4),
+            ((GOOD, SURE, DEAD, TIRED), 3),
+            ((CORRUPTED, SURE, DEAD, TIRED), 2),
+            ((CORRUPTED, SURE, DEAD, UNUSED), 1),
+            ((CORRUPTED_SURE, CORRUPTED_DEAD, DEAD, CORRUPTED), 0),
+        ):
+            for kept in range(256):
+                expected = count if kept == count else slots.Refusal(31)
+                self.assertEqual(slots.startable(Record(places, 0, kept)), expected)
+
+    def test_lamp_refuses_other_faults(self) -> None:
+        """Also where the count is that of the flags."""
+        for record in (
+            Record((GOOD, GOOD, UNUSED, UNUSED), 2, 2),
+            Record((GOOD, GOOD._replace(tries=8), UNUSED, UNUSED), 0, 2),
+            Record((GOOD, SURE._replace(unbootable=True), UNUSED, UNUSED), 0, 1),
+            Record((UNUSED,) * 4, 0, 0),
+        ):
+            self.assertEqual(slots.startable(record), slots.Refusal(31))
+
+    def check_refused(self, record: Record) -> None:
+        """31 from every operation, whatever slot it is for; the record stays."""
+        self.assertFalse(slots.is_valid(record))
+        self.assertEqual(slots.startable(record), slots.Refusal(31))
+        for slot in (0, 1, 2, 3, 4, 255):
+            for answered in every_operation(record, slot):
+                self.assertEqual(answered, (slots.Refusal(31), record))
+
+    def test_wrong_count_is_refused_and_stays(self) -> None:
+        """Too high, too low, or far off, in each operation, before 32 and 33."""
+        for places, current in (
+            ((GOOD, SURE, TIRED, GOOD), 2),
+            ((GOOD, CORRUPTED, UNUSED, UNUSED), 1),
+            ((DEAD, CORRUPTED_SURE, UNUSED, CORRUPTED_DEAD), 0),
+            ((Slot(False, False, True, False, 3), GOOD, SURE, UNUSED), 1),
+        ):
+            right = record_of(places, current)
+            near = (right.startable + 1, max(right.startable - 1, 0))
+            for count in {*near, 0, 4, 5, 255} - {right.startable}:
+                self.check_refused(right._replace(startable=count))
+
+    def test_unused_places_do_not_count(self) -> None:
+        """Whatever their flags and tries; they are kept by every operation."""
+        for flags in itertools.product((False, True), repeat=3):
+            place = Slot(False, *flags, 9)
+            record = Record((place, SURE, place, TIRED), 3, 2)
+            self.assertEqual(slots.startable(record), 2)
+            self.check_refused(record._replace(startable=3))
+            self.check_refused(record._replace(startable=4))
+            for (_, after), count in zip(every_operation(record, 1), (1, 2, 2, 2, 1)):
+                self.assertEqual((after.startable, after.slots[::2]), (count, (place, place)))
+
+    def test_fresh(self) -> None:
+        for number in range(1, 5):
+            answer, record = slots.fresh(number)
+            self.assertEqual((answer, record.startable), (slots.Done(), number))
+            self.assertEqual(slots.startable(record), number)
+        for number in (0, 5, 6, 255, 256, 2**32 - 1):
+            answer, record = slots.fresh(number)
+            self.assertEqual((answer, record.startable), (slots.Refusal(31), 0))
+            self.assertEqual(slots.startable(record), slots.Refusal(31))
+
+    def test_mark_steps_down(self) -> None:
+        """Whether another slot starts or none; not where the slot did not count before."""
+        for other in (SURE, GOOD, CORRUPTED, UNUSED):
+            record = record_of((TIRED, other, UNUSED, UNUSED), 0)
+            self.check_step(-1, slots.start(record), record)
+            for slot in (CORRUPTED, CORRUPTED_SURE, CORRUPTED_DEAD, DEAD):
+                record = record_of((slot, other, UNUSED, UNUSED), 0)
+                self.check_step(0, slots.start(record), record)
+
+    def test_mark_steps_once(self) -> None:
+        """Started again, the slot is marked already."""
+        _, record = slots.start(record_of((TIRED, GOOD, UNUSED, UNUSED), 0))
+        self.assertEqual(slots.start(record), (slots.Recovery(), record))
+        self.assertEqual(record.startable, 1)
+
+    def test_set_active_steps_up(self) -> None:
+        """Where the slot was unbootable, corrupted or both; in the current slot too."""
+        for i, current in itertools.product(range(4), range(4)):
+            first = record_of((GOOD,) * 4, current)
+            for slot in (DEAD, CORRUPTED, CORRUPTED_SURE, CORRUPTED_DEAD):
+                record = replaced(first, i, slot)
+                self.check_step(1, slots.set_active(record, i), record)
+            for slot in (GOOD, SURE, TIRED):
+                record = replaced(first, i, slot)
+                self.check_step(0, slots.set_active(record, i), record)
+
+    def test_modified_steps_up(self) -> None:
+        """Where the slot was corrupted alone: unbootable stays."""
+        for i, current in itertools.product(range(4), range(4)):
+            first = record_of((GOOD,) * 4, current)
+            for slot in (CORRUPTED, CORRUPTED_SURE):
+                record = replaced(first, i, slot)
+                self.check_step(1, slots.modified(record, i), record)
+            for slot in (GOOD, SURE, TIRED, DEAD, CORRUPTED_DEAD):
+                record = replaced(first, i, slot)
+                self.check_step(0, slots.modified(record, i), record)
+
+    def test_corrupted_steps_down_once(self) -> None:
+        """Where the slot was startable; not where it was corrupted already, or unbootable."""
+        for i, current in itertools.product(range(4), range(4)):
+            first = record_of((SURE,) * 4, current)
+            for slot in (GOOD, SURE, TIRED):
+                record = replaced(first, i, slot)
+                self.check_step(-1, slots.corrupted(record, i), record)
+                _, after = slots.corrupted(record, i)
+                self.assertEqual(slots.corrupted(after, i), (slots.Done(), after))
+            for slot in (DEAD, CORRUPTED, CORRUPTED_SURE, CORRUPTED_DEAD):
+                record = replaced(first, i, slot)
+                self.check_step(0, slots.corrupted(record, i), record)
+
+    def test_confirm_and_spent_tries_do_not_step(self) -> None:
+        """Down to no tries, and a successful slot that starts or takes over."""
+        for tries in range(1, 8):
+            record = record_of((GOOD._replace(tries=tries), DEAD, CORRUPTED, GOOD), 0)
+            self.check_step(0, slots.start(record), record)
+        for slot in (GOOD, SURE, TIRED):
+            record = record_of((DEAD, slot, CORRUPTED, UNUSED), 1)
+            self.check_step(0, slots.confirm(record), record)
+        record = record_of((DEAD, SURE, CORRUPTED, UNUSED), 0)
+        self.check_step(0, slots.start(record), record)
+
+    def test_sequences(self) -> None:
+        """Over any operations from a fresh record the count is that of the flags, goes by one
+        at most, down by start and corrupted alone, up by set active and modified alone."""
+        rng = random.Random(18)
+        steps: Dict[str, Set[int]] = {}
+        for _ in range(1500):
+            _, record = slots.fresh(rng.randrange(1, 5))
+            for _ in range(20):
+                operation = rng.choice((slots.start, slots.start, slots.confirm) + ON_SLOT)
+                arguments = (rng.randrange(5),) if operation in ON_SLOT else ()
+                answer, after = operation(record, *arguments)
+                self.assertEqual(after, record_of(after.slots, after.current))
+                self.assertEqual(slots.startable(after), after.startable)
+                self.assertTrue(after == record or not isinstance(answer, slots.Refusal))
+                steps.setdefault(operation.__name__, set()).add(after.startable - record.startable)
+                record = after
+        down, up = {0, -1}, {0, 1}
+        self.assertEqual(
+            steps,
+            {"start": down, "corrupted": down, "set_active": up, "modified": up, "confirm": {0}},
+        )
 
 
 class TestLister(unittest.TestCase):

@@ -6,7 +6,7 @@ import struct
 import tempfile
 import unittest
 import unittest.mock
-from typing import Any, Callable, Dict, Iterator, List, Set, Tuple
+from typing import Any, Callable, Dict, Iterator, List, Sequence, Set, Tuple
 
 import build
 import cases_boot
@@ -33,10 +33,33 @@ LARGEST_WRITTEN = 69632
 LARGEST_COMPARED_IMAGE = 4096
 MOST_NUMBERS = 96
 LARGEST_OUTPUT = 450_000
-RECORD = 21
+RECORD = 22
 RECORD_SLOT = 5
 RECORD_CURRENT = 20
+RECORD_STARTABLE = 21
 SLOT_TRIES = 4
+
+# How an operation steps the count, by the flags unbootable and corrupted of the slot that
+# it is about: the current one for start and confirm.
+STEPS = {
+    (cases_slots.START, False, False): {0, -1},
+    (cases_slots.START, False, True): {0},
+    (cases_slots.START, True, False): {0},
+    (cases_slots.START, True, True): {0},
+    (cases_slots.SET_ACTIVE, False, False): {0},
+    (cases_slots.SET_ACTIVE, False, True): {1},
+    (cases_slots.SET_ACTIVE, True, False): {1},
+    (cases_slots.SET_ACTIVE, True, True): {1},
+    (cases_slots.MODIFIED, False, False): {0},
+    (cases_slots.MODIFIED, False, True): {1},
+    (cases_slots.MODIFIED, True, False): {0},
+    (cases_slots.MODIFIED, True, True): {0},
+    (cases_slots.CORRUPTED, False, False): {-1},
+    (cases_slots.CORRUPTED, False, True): {0},
+    (cases_slots.CORRUPTED, True, False): {0},
+    (cases_slots.CORRUPTED, True, True): {0},
+    (cases_slots.CONFIRM, False, False): {0},
+}
 
 Lines = Iterator[Tuple[int, ...]]
 Changed = Tuple[slots.Answer, Record]
@@ -88,7 +111,14 @@ def slot_record(data: bytes) -> Record:
         Slot(*(flag == 1 for flag in data[at:at + SLOT_TRIES]), data[at + SLOT_TRIES])
         for at in starts
     )
-    return Record((a, b, c, d), data[RECORD_CURRENT])
+    return Record((a, b, c, d), data[RECORD_CURRENT], data[RECORD_STARTABLE])
+
+
+def count_of_values(values: Sequence[int]) -> int:
+    """How many slots are startable, by the values of a record: in use, unbootable and
+    corrupted clear."""
+    starts = range(0, RECORD_CURRENT, RECORD_SLOT)
+    return sum((values[at], values[at + 1], values[at + 3]) == (1, 0, 0) for at in starts)
 
 
 def slot_cases(data: bytes) -> Iterator[cases_slots.Case]:
@@ -107,7 +137,7 @@ def slot_sum_lines(data: bytes) -> Lines:
         state = crc.ALL_ONES
         for at in range(start, min(start + 64 * RECORD, len(data)), RECORD):
             record = slot_record(data[at:at + RECORD])
-            for operation, argument in itertools.product(range(6), range(5)):
+            for operation, argument in itertools.product(range(7), range(5)):
                 case = cases_slots.Case(operation, argument, record)
                 state = crc.after_bytes(state, bytes(cases_slots.values(case)))
         yield (state ^ crc.ALL_ONES,)
@@ -272,6 +302,7 @@ READERS: Dict[str, Callable[[bytes], Lines]] = {
 # Wrong rules, each in the place of a function of the reference.
 
 right_fresh = slots.fresh
+right_valid = slots.is_valid
 
 
 def unused_before_invalid(record: Record, slot: int, **changes: Any) -> Changed:
@@ -310,6 +341,79 @@ def fresh_corrupted(number: int) -> Changed:
     """A fresh record with the flag set in its last place."""
     answer, record = right_fresh(number)
     return answer, slots.with_slot(record, 3, record.slots[3]._replace(corrupted=True))
+
+
+def with_count(of: Callable[..., Changed], count: Callable[[Record, Record], int]) -> Any:
+    """An operation that keeps another count, by the record before and after."""
+    def wrong(record: Record, *slot: int) -> Changed:
+        answer, after = of(record, *slot)
+        if isinstance(answer, slots.Refusal):
+            return answer, after
+        return answer, after._replace(startable=count(record, after) % 256)
+    return wrong
+
+
+def current_has(record: Record, flag: str) -> bool:
+    """Whether the current slot has a flag."""
+    return getattr(record.slots[record.current], flag) is True
+
+
+def not_from_unbootable(before: Record, after: Record) -> int:
+    """Set active's count, which an unbootable slot does not step."""
+    was_unbootable = before.slots[after.current].unbootable
+    return before.startable if was_unbootable else after.startable
+
+
+def fresh_counted_4(number: int) -> Changed:
+    """A fresh record for 3 slots with the count 4."""
+    answer, record = right_fresh(number)
+    return answer, record._replace(startable=4) if number == 3 else record
+
+
+def is_valid_but(is_right: Callable[[int, int], bool]) -> Callable[[Record], bool]:
+    """Valid by another comparison of the kept count with that of the flags."""
+    def wrong(record: Record) -> bool:
+        count = slots.count_of(record.slots)
+        return is_right(record.startable, count) and right_valid(record._replace(startable=count))
+    return wrong
+
+
+WRONG_COUNTS: Tuple[Tuple[str, Callable[..., Any]], ...] = (
+    ("start", with_count(slots.start, lambda before, _: before.startable)),
+    ("start", with_count(slots.start, lambda before, after: (
+        after.startable - current_has(before, "unbootable")))),
+    ("start", with_count(slots.start, lambda before, after: (
+        after.startable - current_has(before, "corrupted")))),
+    ("start", with_count(slots.start, lambda before, after: (
+        after.startable - (before.slots != after.slots and before.current == after.current)))),
+    ("set_active", with_count(slots.set_active, not_from_unbootable)),
+    ("set_active", with_count(slots.set_active, lambda before, _: before.startable)),
+    ("set_active", with_count(slots.set_active, lambda before, _: before.startable + 1)),
+    ("modified", with_count(slots.modified, lambda before, _: before.startable)),
+    ("modified", with_count(slots.modified, lambda before, after: before.startable + any(
+        old.corrupted and not new.corrupted for old, new in zip(before.slots, after.slots)))),
+    ("corrupted", with_count(slots.corrupted, lambda before, _: before.startable)),
+    ("corrupted", with_count(slots.corrupted, lambda before, _: before.startable - 1)),
+    ("corrupted", with_count(slots.corrupted, lambda before, after: (
+        after.startable - (before.slots == after.slots)))),
+    ("corrupted", with_count(slots.corrupted, lambda before, after: (
+        before.startable - (before.slots != after.slots)))),
+    ("confirm", with_count(slots.confirm, lambda before, _: before.startable + 1)),
+    ("fresh", fresh_counted_4),
+    ("count_of", lambda places: sum(
+        not slot.unbootable and not slot.corrupted for slot in places)),
+    ("is_startable", lambda slot: slot.used and not slot.unbootable),
+    ("is_startable", lambda slot: slot.used and not slot.corrupted),
+    ("is_startable", lambda slot: slot.used and slots.may_start(slot)),
+    ("is_startable", slots.is_candidate),
+    ("is_valid", is_valid_but(lambda kept, count: True)),
+    ("is_valid", is_valid_but(lambda kept, count: kept <= count)),
+    ("is_valid", is_valid_but(lambda kept, count: kept >= count)),
+    ("is_valid", is_valid_but(lambda kept, count: kept % 4 == count % 4)),
+    ("startable", lambda record: record.startable),
+    ("startable", lambda record: slots.count_of(record.slots)),
+    ("startable", lambda record: slots.count_of(record.slots) or slots.Refusal(31)),
+)
 
 
 WRONG_RULES: Tuple[Tuple[str, Callable[..., Any]], ...] = (
@@ -419,11 +523,63 @@ class TestVectors(unittest.TestCase):
                 found[number].add((case.argument, is_used))
         self.assertEqual(found[0], {(slot, True) for slot in range(4)})
         self.assertEqual(found[32], {(slot, False) for slot in (0, 1, 2, 3, 4, 255)})
-        self.assertLessEqual({(0, True), (0, False), (2, True), (2, False), (4, False)}, found[31])
+        places = {(slot, is_used) for slot in range(4) for is_used in (False, True)}
+        self.assertEqual(found[31], places | {(4, False)})
+
+    def test_counts_after(self) -> None:
+        """What is not refused leaves a record whose count is that of its values; all else,
+        and the lamp, leaves the record."""
+        for case, (number, _, answered, *after) in self.slot_answers():
+            if number == 0:
+                self.assertEqual(after[RECORD_STARTABLE], count_of_values(after))
+            if number != 0 or case.operation == cases_slots.STARTABLE:
+                self.assertEqual(tuple(after), cases_slots.record_values(case.record))
+            if case.operation == cases_slots.STARTABLE:
+                self.assertEqual(answered, 0 if number else count_of_values(after))
+
+    def test_count_steps(self) -> None:
+        """Each step of the count that an operation may make is shown, and no other."""
+        found: Dict[Tuple[int, bool, bool], Set[int]] = {}
+        for case, (number, _, _, *after) in self.slot_answers():
+            if number == 0 and case.operation not in (cases_slots.FRESH, cases_slots.STARTABLE):
+                has_slot = case.operation not in (cases_slots.START, cases_slots.CONFIRM)
+                slot = case.record.slots[case.argument if has_slot else case.record.current]
+                step = after[RECORD_STARTABLE] - case.record.startable
+                key = (case.operation, slot.unbootable, slot.corrupted)
+                found.setdefault(key, set()).add(step)
+        self.assertEqual(found, STEPS)
+
+    def test_wrong_counts(self) -> None:
+        """One more and one less than the flags, and others, in each operation, with no other
+        fault: all but fresh are refused with 31."""
+        found: Set[Tuple[int, int, int]] = set()
+        for case, (number, *_) in self.slot_answers():
+            count = count_of_values(cases_slots.record_values(case.record))
+            is_right = slots.is_valid(case.record._replace(startable=count))
+            if is_right and case.record.startable != count:
+                found.add((case.operation, number, case.record.startable - count))
+        steps = {step for _, _, step in found}
+        self.assertLessEqual({1, -1, 2, -2, 4, -4, 128, 253, 255}, steps)
+        shown = {(operation, number) for operation, number, _ in found}
+        refused = {(operation, 31) for operation in range(1, 7)}
+        self.assertEqual(shown, refused | {(cases_slots.FRESH, 0), (cases_slots.FRESH, 31)})
+        near = {(operation, 31, step) for operation in range(1, 7) for step in (1, -1)}
+        self.assertLessEqual(near, found)
+
+    def test_lamp_answers(self) -> None:
+        """Each count is answered, also beside unused places that look startable."""
+        answered = [
+            (count, case.record.slots) for case, (number, _, count, *_) in self.slot_answers()
+            if case.operation == cases_slots.STARTABLE and number == 0
+        ]
+        self.assertEqual({count for count, _ in answered}, {0, 1, 2, 3, 4})
+        beside = {count for count, places in answered if cases_slots.GHOST in places}
+        self.assertEqual(beside, {0, 1, 2})
 
     def test_summed_records(self) -> None:
         """Two slots with all flags and several tries, either current; then records that are
-        mostly valid, with any flags at each place, used or not."""
+        mostly valid, with any flags at each place, used or not; some have a wrong count
+        and no other fault."""
         data = self.made[os.path.join("data", "slotsum.bin")]
         records = [slot_record(data[at:at + RECORD]) for at in range(0, len(data), RECORD)]
         pairs = {(record.slots[:2], record.current) for record in records[:3200]}
@@ -433,13 +589,23 @@ class TestVectors(unittest.TestCase):
         self.assertEqual(len(found), slots.PLACES * 2**SLOT_TRIES)
         valid = [record for record in records[3200:] if slots.is_valid(record)]
         self.assertGreater(len(valid), 6000)
+        right = [count_of_values(cases_slots.record_values(record)) for record in records]
+        for record, count in zip(records[:3200], right):
+            self.assertEqual(record.startable, count)
+        wrong = [
+            record.startable - count for record, count in zip(records, right)
+            if record.startable != count and slots.is_valid(record._replace(startable=count))
+        ]
+        self.assertGreater(len(wrong), 700)
+        for step in (1, -1):
+            self.assertGreater(wrong.count(step), 200)
 
     def test_wrong_slot_rules_are_seen(self) -> None:
         """Each changes a line of `slots` and a checksum of the last records of `slotsum`."""
         shown = self.made[os.path.join("data", "slots.bin")]
         summed = self.made[os.path.join("data", "slotsum.bin")][-4 * 64 * RECORD:]
         lines, sums = list(slot_lines(shown)), list(slot_sum_lines(summed))
-        for i, (name, wrong) in enumerate(WRONG_RULES):
+        for i, (name, wrong) in enumerate(WRONG_RULES + WRONG_COUNTS):
             with self.subTest(i), unittest.mock.patch.object(slots, name, wrong):
                 self.assertNotEqual(list(slot_lines(shown)), lines)
                 self.assertNotEqual(list(slot_sum_lines(summed)), sums)

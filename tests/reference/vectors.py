@@ -38,25 +38,27 @@ fields   case:  at u64, value u64, len u32, len bytes (len at most 20)
                 `at`, each into the bytes as given.  A write that does not fit
                 whole changes nothing.
 
-slots    case:  operation u8, argument u8, record of 21 u8; 23 bytes in all
+slots    case:  operation u8, argument u8, record of 22 u8; 24 bytes in all
          operation: 0 fresh (argument: number of slots; a refusal leaves the record),
                 1 start, 2 set active (argument: slot), 3 modified (argument:
-                slot), 4 confirm, 5 corrupted (argument: slot); the argument of
-                1 and 4 is 0.
+                slot), 4 confirm, 5 corrupted (argument: slot), 6 startable,
+                the lamp's count; the argument of 1, 4 and 6 is 0.
          record: used, unbootable, successful, corrupted (0 or 1 each) and tries,
-                for a, b, c and d in turn; then the current slot (0 for a).
+                for a, b, c and d in turn; then the current slot (0 for a); then
+                the count of startable slots.
          values: NUMBER of the refusal or 0; KIND 0 done, 1 boots, 2 recovery,
-                3 refused; the started SLOT, 0 unless it boots; the 21 values
-                of the record after.
+                3 refused; the started SLOT, 0 unless it boots; the 22 values
+                of the record after.  Of 6: NUMBER; 0; the COUNT, 0 when refused;
+                the record, which stays.
 
-slotsum  case:  record of 21 u8 as in `slots`.  One line for each block of 64
+slotsum  case:  record of 22 u8 as in `slots`.  One line for each block of 64
                 records, the last block being shorter when they do not come out
                 even.
          values: CHECKSUM of the values, a byte each, for each record of the block
-                in turn, for each operation 0 to 5 in turn, for each argument 0
-                to 4 in turn: the 24 values as in `slots` of that operation with
-                that argument on the record as it stands in the file.  Start and
-                confirm do not look at the argument.
+                in turn, for each operation 0 to 6 in turn, for each argument 0
+                to 4 in turn: the 25 values as in `slots` of that operation with
+                that argument on the record as it stands in the file.  Start,
+                confirm and startable do not look at the argument.
 
 An image is kept as patches over zeros:
 

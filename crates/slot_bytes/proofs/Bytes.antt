@@ -25,7 +25,7 @@ pub put : (b : List ℕ) (r : Record) (k : ℕ) {u n f c : ℕ} → u ≡ flag (
 put b r k eu en ef ec = stored b (k * 5) (slotAt r k) eu en ef ec
 
 -- a record's bytes, slot by slot
-pub joined : (r : Record) (a b c d : List ℕ) → a ≡ sets (replicate 21 0) 0 (slotBytes (slotAt r 0)) → b ≡ sets a 5 (slotBytes (slotAt r 1)) → c ≡ sets b 10 (slotBytes (slotAt r 2)) → d ≡ sets c 15 (slotBytes (slotAt r 3)) → set d 20 (r .current) ≡ recordBytes r
+pub joined : (r : Record) (a b c d : List ℕ) → a ≡ sets (replicate 22 0) 0 (slotBytes (slotAt r 0)) → b ≡ sets a 5 (slotBytes (slotAt r 1)) → c ≡ sets b 10 (slotBytes (slotAt r 2)) → d ≡ sets c 15 (slotBytes (slotAt r 3)) → set (set d 20 (r .current)) 21 (r .startable) ≡ recordBytes r
 unfolding recordBytes
 joined r a b c d ea eb ec ed = rw (ed, ec, eb, ea)
 
@@ -35,6 +35,6 @@ unfolding isRecord
 all-flags x ea eb ec ed = rw (ea, eb, ec, ed)
 
 -- the record that bytes say, by its slots
-pub by-slots : (x : List ℕ) {a b c d : Slot} → a ≡ slotFrom x 0 → b ≡ slotFrom x 5 → c ≡ slotFrom x 10 → d ≡ slotFrom x 15 → _≡_ {A = Record} (record { slots = a ∷ b ∷ c ∷ d ∷ []; current = at x 20 }) (recordOf x)
+pub by-slots : (x : List ℕ) {a b c d : Slot} → a ≡ slotFrom x 0 → b ≡ slotFrom x 5 → c ≡ slotFrom x 10 → d ≡ slotFrom x 15 → _≡_ {A = Record} (record { slots = a ∷ b ∷ c ∷ d ∷ []; current = at x 20; startable = at x 21 }) (recordOf x)
 unfolding recordOf
 by-slots x ea eb ec ed = rw (ea, eb, ec, ed)

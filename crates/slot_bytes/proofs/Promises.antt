@@ -74,7 +74,7 @@ opened : (r : Record) → length (r .slots) ≡ 4 → r .slots ≡ slotAt r 0 �
 opened r l = sym (entries-of (newSlot false 0) (r .slots) 4 l)
 
 -- a record whose slots are those of r is r
-same-slots : (r : Record) (a b c d : Slot) → a ≡ slotAt r 0 → b ≡ slotAt r 1 → c ≡ slotAt r 2 → d ≡ slotAt r 3 → length (r .slots) ≡ 4 → _≡_ {A = Record} (record { slots = a ∷ b ∷ c ∷ d ∷ []; current = r .current }) r
+same-slots : (r : Record) (a b c d : Slot) → a ≡ slotAt r 0 → b ≡ slotAt r 1 → c ≡ slotAt r 2 → d ≡ slotAt r 3 → length (r .slots) ≡ 4 → _≡_ {A = Record} (record { slots = a ∷ b ∷ c ∷ d ∷ []; current = r .current; startable = r .startable }) r
 same-slots r a b c d ea eb ec ed l = rw (ea, eb, ec, ed, ← opened r l)
 
 again : (r : Record) → length (r .slots) ≡ 4 → recordOf (recordBytes r) ≡ r
@@ -90,11 +90,11 @@ parts : (t : List ℕ) {p p' q q' r r' s s' : List ℕ} → p ≡ p' → q ≡ q
 parts t ep eq er es = rw (ep, eq, er, es)
 
 -- bytes that are a record are written as they were read
-read : (b : List ℕ) → length b ≡ 21 → isRecord b ≡ true → recordBytes (recordOf b) ≡ b
+read : (b : List ℕ) → length b ≡ 22 → isRecord b ≡ true → recordBytes (recordOf b) ≡ b
 unfolding recordBytes recordOf isRecord
 read b l e =
     let h : _ = all-four (areFlags b 0) (areFlags b 5) (areFlags b 10) (areFlags b 15) e in
-    parts (at b 20 ∷ []) (slot-kept b 0 (h .0)) (slot-kept b 5 (h .1)) (slot-kept b 10 (h .2)) (slot-kept b 15 (h .3)) ∙ entries-of 0 b 21 l
+    parts (at b 20 ∷ at b 21 ∷ []) (slot-kept b 0 (h .0)) (slot-kept b 5 (h .1)) (slot-kept b 10 (h .2)) (slot-kept b 15 (h .3)) ∙ entries-of 0 b 22 l
 
 -- a flag is a byte
 flag-small : (f : Bool) → flag f < 256
@@ -115,23 +115,24 @@ slot-small s h (suc (suc (suc zero))) = flag-small (s .corrupted)
 slot-small s h (suc (suc (suc (suc zero)))) = h
 slot-small s h (suc (suc (suc (suc (suc i))))) = omega arith
 
-one-small : (x : ℕ) → x < 256 → (i : ℕ) → getD (x ∷ []) i 0 < 256
-one-small x h zero = h
-one-small x h (suc i) = omega arith
+two-small : (x y : ℕ) → x < 256 → y < 256 → (i : ℕ) → getD (x ∷ y ∷ []) i 0 < 256
+two-small x y h l zero = h
+two-small x y h l (suc zero) = l
+two-small x y h l (suc (suc i)) = omega arith
 
 small : (r : Record) → InBytes r → (i : ℕ) → getD (recordBytes r) i 0 < 256
 unfolding recordBytes
 small r h =
-    let e : List ℕ = r .current ∷ [] in
+    let e : List ℕ = r .current ∷ r .startable ∷ [] in
     let d : List ℕ = slotBytes (slotAt r 3) in
     let c : List ℕ = slotBytes (slotAt r 2) in
     let b : List ℕ = slotBytes (slotAt r 1) in
     each (slotBytes (slotAt r 0)) (b ++ (c ++ (d ++ e))) (slot-small (slotAt r 0) (h .tries 0))
     (each b (c ++ (d ++ e)) (slot-small (slotAt r 1) (h .tries 1))
     (each c (d ++ e) (slot-small (slotAt r 2) (h .tries 2))
-    (each d e (slot-small (slotAt r 3) (h .tries 3)) (one-small (r .current) (h .current)))))
+    (each d e (slot-small (slotAt r 3) (h .tries 3)) (two-small (r .current) (r .startable) (h .current) (h .startable)))))
 
-long : (r : Record) → length (recordBytes r) ≡ 21
+long : (r : Record) → length (recordBytes r) ≡ 22
 unfolding recordBytes
 long r = refl
 

@@ -1,5 +1,5 @@
--- The slot record as 21 bytes: for a, b, c and d in turn used, unbootable, successful, corrupted (0 or 1 each) and tries;
--- then the current slot, 0 for a. Assumes nothing.
+-- The slot record as 22 bytes: for a, b, c and d in turn used, unbootable, successful, corrupted (0 or 1 each) and tries;
+-- then the current slot, 0 for a; then the count of startable slots. Assumes nothing.
 use mathlib.Core.Bool.{Bool, cond, _&&_}
 use mathlib.Core.List.{List, [], _∷_, _++_}
 use Prim.Native.Nat.{ℕ, _+_}
@@ -17,10 +17,10 @@ flag f = cond f 1 0
 abbrev pub slotBytes : Slot → List ℕ
 slotBytes s = flag (s .used) ∷ flag (s .unbootable) ∷ flag (s .successful) ∷ flag (s .corrupted) ∷ s .tries ∷ []
 
--- a record's bytes: slots a to d, then the current slot
+-- a record's bytes: slots a to d, then the current slot, then the count
 unfoldable pub recordBytes : Record → List ℕ
 recordBytes r =
-    slotBytes (slotAt r 0) ++ (slotBytes (slotAt r 1) ++ (slotBytes (slotAt r 2) ++ (slotBytes (slotAt r 3) ++ (r .current ∷ []))))
+    slotBytes (slotAt r 0) ++ (slotBytes (slotAt r 1) ++ (slotBytes (slotAt r 2) ++ (slotBytes (slotAt r 3) ++ (r .current ∷ r .startable ∷ []))))
 
 -- byte i of a record
 abbrev pub at : List ℕ → ℕ → ℕ
@@ -32,7 +32,7 @@ slotFrom b i = record { used = eqb (at b i) 1; unbootable = eqb (at b (i + 1)) 1
 
 -- the record that bytes say
 unfoldable pub recordOf : List ℕ → Record
-recordOf b = record { slots = slotFrom b 0 ∷ slotFrom b 5 ∷ slotFrom b 10 ∷ slotFrom b 15 ∷ []; current = at b 20 }
+recordOf b = record { slots = slotFrom b 0 ∷ slotFrom b 5 ∷ slotFrom b 10 ∷ slotFrom b 15 ∷ []; current = at b 20; startable = at b 21 }
 
 -- the four bytes from i on are flags, each 0 or 1
 abbrev pub areFlags : List ℕ → ℕ → Bool

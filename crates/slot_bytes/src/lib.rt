@@ -1,4 +1,4 @@
-// The slot record as 21 bytes, written and read. specs/Record.antt has the layout.
+// The slot record as 22 bytes, written and read. specs/Record.antt has the layout.
 use slot_rules::Record;
 use slot_rules::Slot;
 ghost use mathlib.Core.Path.{_≡_};
@@ -8,7 +8,7 @@ ghost use Rattle.slot_rules.specs.Records.{slotAt};
 ghost use Rattle.slot_bytes.specs.Record.{flag, slotBytes, recordBytes, slotFrom, recordOf, areFlags, isRecord};
 
 // The bytes of a record.
-pub const RECORD: usize = 21;
+pub const RECORD: usize = 22;
 
 // A flag as a number: 1 where it is set.
 pub fn flag_byte(f: bool) -> u8
@@ -42,6 +42,7 @@ pub fn record_bytes(r: Record) -> [u8; RECORD]
     let c = put_slot(b, r, 2);
     let mut d = put_slot(c, r, 3);
     d[20] = r.current;
+    d[21] = r.startable;
     d
 }
 
@@ -70,6 +71,7 @@ pub fn record_of(b: [u8; RECORD]) -> Record
     Record {
         slots: [s, t, u, v],
         current: b[20],
+        startable: b[21],
     }
 }
 

@@ -8,20 +8,22 @@ use native.Mathlib.Omega.{arith}
 use lib.Dec.{ltb}
 use borrow.Author.Tests.{ltb-false, lt-ltb, le-ltb}
 use Rattle.rules.specs.First.{first}
-use Rattle.rules.specs.Answer.{refused}
+use Rattle.rules.specs.Answer.{Answer, refused}
 use Rattle.slot_rules.specs.declared.Record.{Record}
 use Rattle.slot_rules.specs.declared.Changed.{Changed}
+use Rattle.slot_rules.specs.declared.Counted.{Counted}
 use Rattle.slot_rules.specs.declared.Outcome.the-variants.{Starts, Recovery, Done, Refused}
 use Rattle.slot_rules.specs.declared.Op.{Op}
 use Rattle.slot_rules.specs.declared.Op.the-variants.{SetActive, Modified, Corrupted}
 use Rattle.slot_rules.specs.Records.{valid}
-use Rattle.slot_rules.specs.Answers.{Change, beside, changeOf, refusedOr}
-use Rattle.slot_rules.specs.Operations.{freshOf}
+use Rattle.slot_rules.specs.Answers.{Change, beside, changeOf, countAnswerOf, refusedOr}
+use Rattle.slot_rules.specs.Operations.{freshOf, startableOf}
 use Rattle.slot_rules.specs.Applied.{apply}
 use Rattle.slot_rules.proofs.Promises.{past-d}
 use Rattle.slot_bytes.specs.Record.{recordBytes, recordOf, isRecord}
 use Rattle.slot_on_bytes.specs.declared.Reply.{Reply}
-use Rattle.slot_on_bytes.specs.OnBytes.{replyOf, bytesTests, onBytes, freshBytes, bytesRefusal, clipped}
+use Rattle.slot_on_bytes.specs.declared.Tally.{Tally}
+use Rattle.slot_on_bytes.specs.OnBytes.{replyOf, bytesTests, onBytes, freshBytes, bytesRefusal, tallyOf, bytesStartable, clipped}
 
 -- a change of a record as numbers and bytes, by its answer
 module _ (b : List ℕ) (c : Changed) {n : List ℕ} (e : n ≡ recordBytes (c .after)) where
@@ -50,6 +52,19 @@ module _ (o : Op) (b : List ℕ) {r : Record} {c : Change} {x : Reply} (er : r �
   pub on-none : isRecord b ≡ false → c ≡ beside (refused 31 0) r → x ≡ replyOf b c → x ≡ onBytes o b
   unfolding onBytes
   on-none e ec ex = rw (e, ex, ec, er)
+
+-- the count's answer as numbers, by its case, and from bytes that are a record and bytes that are none
+pub tallied : {c d : Counted} → c ≡ d → tallyOf (countAnswerOf d) ≡ tallyOf (countAnswerOf c)
+tallied e = ap (λ (x : Counted). tallyOf (countAnswerOf x)) (sym e)
+
+module _ (b : List ℕ) {x : Tally} where
+  pub counted-record : {r : Record} {a : Answer ℕ} → r ≡ recordOf b → isRecord b ≡ true → a ≡ startableOf r → x ≡ tallyOf a → x ≡ bytesStartable b
+  unfolding bytesStartable
+  counted-record er e ea ex = rw (e, ex, ea, er)
+
+  pub counted-none : isRecord b ≡ false → x ≡ tallyOf (refused 31 0) → x ≡ bytesStartable b
+  unfolding bytesStartable
+  counted-none e ex = rw (e, ex)
 
 -- a number in a byte, where it fits and where it does not
 pub clip-fits : (n : ℕ) → n < 256 → n ≡ clipped n
@@ -97,3 +112,7 @@ module _ (b : List ℕ) {r : Record} {a v : Bool} (er : r ≡ recordOf b) (ea : 
 -- what is handed over of a reply is what an equal one says
 pub handed : (x y : Reply) {n : ℕ} {a b : List ℕ} → (n ≡ x .number) × (a ≡ x .answer) × (b ≡ x .bytes) → x ≡ y → (n ≡ y .number) × (a ≡ y .answer) × (b ≡ y .bytes)
 handed x y p e = (p .0 ∙ ap (λ r. r .number) e, p .1 ∙ ap (λ r. r .answer) e, p .2 ∙ ap (λ r. r .bytes) e)
+
+-- what is handed over of a tally is what an equal one says
+pub told : (x y : Tally) → x ≡ y → (x .number ≡ y .number) × (x .startable ∷ [] ≡ y .startable ∷ [])
+told x y e = (ap (λ t. t .number) e, ap (λ t. t .startable ∷ []) e)

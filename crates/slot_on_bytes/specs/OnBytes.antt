@@ -1,19 +1,20 @@
--- The operations on the bytes of a slot record: what each answers, as numbers, and what it leaves.
+-- The operations on the bytes of a slot record: what each answers, as numbers, and what it leaves; and the count read from them.
 -- Assumes nothing.
 use mathlib.Core.Bool.{Bool, not, cond, _&&_}
 use mathlib.Core.List.{List, [], _∷_}
 use Prim.Native.Nat.{ℕ}
 use lib.Dec.{ltb}
 use Rattle.rules.specs.First.{first}
-use Rattle.rules.specs.Answer.{Answer, accepted, refused, numberOf}
+use Rattle.rules.specs.Answer.{Answer, accepted, refused, unless, numberOf}
 use Rattle.slot_rules.specs.declared.Record.{Record}
 use Rattle.slot_rules.specs.declared.Op.{Op}
 use Rattle.slot_rules.specs.Records.{valid}
 use Rattle.slot_rules.specs.Answers.{Deed, starts, recovery, done, Change, refusedOr}
-use Rattle.slot_rules.specs.Operations.{freshOf}
+use Rattle.slot_rules.specs.Operations.{freshOf, startableOf}
 use Rattle.slot_rules.specs.Applied.{apply}
 use Rattle.slot_bytes.specs.Record.{recordBytes, recordOf, isRecord}
 use Rattle.slot_on_bytes.specs.declared.Reply.{Reply}
+use Rattle.slot_on_bytes.specs.declared.Tally.{Tally}
 
 -- a slot operation's array: kind (0 done, 1 starts, 2 Recovery, 3 refused), and the slot that starts, or 0
 abbrev pub slotAnswer : Answer Deed → List ℕ
@@ -46,6 +47,15 @@ freshBytes n b = replyOf b (freshOf n)
 -- 0 where bytes are a valid record, else 31
 unfoldable pub bytesRefusal : List ℕ → ℕ
 bytesRefusal b = first ((not (isRecord b && valid (recordOf b)), 31) ∷ [])
+
+-- the answer of the count's reader, as numbers: 0 and the count, or the refusal's number and 0
+abbrev pub tallyOf : Answer ℕ → Tally
+tallyOf (accepted n) = record { number = 0; startable = n }
+tallyOf (refused n place) = record { number = n; startable = 0 }
+
+-- "the lamp reads it": how many slots of the record in bytes are startable
+unfoldable pub bytesStartable : List ℕ → Tally
+bytesStartable b = tallyOf (unless (first (bytesTests b)) 0 (startableOf (recordOf b)))
 
 -- a number in a byte: the greatest where it does not fit
 abbrev pub clipped : ℕ → ℕ

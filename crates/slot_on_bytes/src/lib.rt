@@ -1,15 +1,16 @@
-// The operations on the bytes of a slot record, for any number of a slot. specs/OnBytes.antt says what
-// each answers and leaves.
+// The operations on the bytes of a slot record, for any number of a slot, and the count that is read from
+// them. specs/OnBytes.antt says what each answers and leaves.
 use slot_bytes::RECORD;
 use slot_bytes::is_record;
 use slot_bytes::record_bytes;
 use slot_bytes::record_of;
 use slot_rules::Changed;
+use slot_rules::Counted;
 use slot_rules::Op;
 use slot_rules::Outcome;
 ghost use mathlib.Core.Path.{_≡_};
-ghost use Rattle.slot_rules.specs.Answers.{changeOf};
-ghost use Rattle.slot_on_bytes.specs.OnBytes.{replyOf, onBytes, freshBytes, bytesRefusal, clipped};
+ghost use Rattle.slot_rules.specs.Answers.{changeOf, countAnswerOf};
+ghost use Rattle.slot_on_bytes.specs.OnBytes.{replyOf, onBytes, freshBytes, bytesRefusal, tallyOf, bytesStartable, clipped};
 
 // What an operation on bytes answers and leaves: 0 or the refusal's number, kind and started slot,
 // and the record's bytes afterwards.
@@ -17,6 +18,12 @@ pub struct Reply {
     pub number: u32,
     pub answer: [u64; 2],
     pub bytes: [u8; RECORD],
+}
+
+// How many slots are startable: 0 and the count, or the refusal's number and 0.
+pub struct Tally {
+    pub number: u32,
+    pub startable: u64,
 }
 
 // A change of a record, as numbers and as what becomes of the bytes b: a refusal leaves them.
@@ -108,4 +115,31 @@ pub fn bytes_refusal(bytes: [u8; RECORD]) -> u32
         return 0;
     }
     31
+}
+
+// What the count's reader answers, as numbers.
+fn tally_of(c: Counted) -> Tally
+    ensures { λ t. ⌜ t ≡ tallyOf (countAnswerOf c) ⌝ }
+{
+    match c {
+        Counted::Slots(count) => Tally {
+            number: 0,
+            startable: count as u64,
+        },
+        Counted::Refused(number) => Tally {
+            number,
+            startable: 0,
+        },
+    }
+}
+
+// How many slots of the record in bytes are startable; 31 where they are no valid record.
+pub fn startable(bytes: [u8; RECORD]) -> Tally
+    ensures { λ t. ⌜ t ≡ bytesStartable bytes ⌝ }
+{
+    let r = record_of(bytes);
+    if is_record(bytes) {
+        return tally_of(slot_places::startable_slots(r));
+    }
+    tally_of(Counted::Refused(31))
 }

@@ -1,7 +1,8 @@
-// One slot: what makes it valid, what it may do, and what each operation makes of it.
+// One slot: what makes it valid, whether it counts as startable, what it may do, and what each operation
+// makes of it.
 use slot_rules::Slot;
 ghost use mathlib.Core.Path.{_≡_};
-ghost use Rattle.slot_rules.specs.OneSlot.{slotValid, sound, mayStart, mayTakeOver, mayConfirm, spent, marked, activated, modified, damaged, confirmed, newSlot};
+ghost use Rattle.slot_rules.specs.OneSlot.{slotValid, sound, countOf, mayStart, mayTakeOver, mayConfirm, spent, marked, activated, modified, damaged, confirmed, newSlot};
 
 // Whether the slot may stand in a valid record: one that is not used always may.
 pub fn is_slot_valid(s: Slot) -> bool
@@ -15,6 +16,13 @@ fn is_sound(s: Slot) -> bool
     ensures { λ b. ⌜ b ≡ sound s ⌝ }
 {
     !s.unbootable & !s.corrupted
+}
+
+// What the slot adds to the count of startable ones: 1 where it is in use and sound.
+pub fn count_of(s: Slot) -> u8
+    ensures { λ n. ⌜ n ≡ countOf s ⌝ }
+{
+    if s.used & is_sound(s) { 1 } else { 0 }
 }
 
 // Whether the slot starts where it is current.

@@ -1,11 +1,15 @@
-// The record's four places: the slot at each, whether it is in use and whether all are valid, one of
-// them replaced, and a new record.
+// The record's four places: the slot at each, whether it is in use, whether all are valid, how many are
+// startable, and a new record.
+use slot_one::count_of;
 use slot_one::is_slot_valid;
 use slot_one::new_slot;
+use slot_rules::Counted;
 use slot_rules::Record;
 use slot_rules::Slot;
 ghost use mathlib.Core.Path.{_≡_};
-ghost use Rattle.slot_rules.specs.Records.{slotAt, slotsValid, valid, inUse, replaced, newRecord};
+ghost use Rattle.slot_rules.specs.Records.{slotAt, slotsValid, startableIn, valid, inUse, newRecord};
+ghost use Rattle.slot_rules.specs.Answers.{countAnswerOf};
+ghost use Rattle.slot_rules.specs.Operations.{startableOf};
 
 // The slot at a place; past d, one that is not used.
 pub fn slot_at(r: Record, place: u8) -> Slot
@@ -28,6 +32,16 @@ fn are_slots_valid(r: Record) -> bool
         & is_slot_valid(slot_at(r, 3))
 }
 
+// How many of the four slots are startable, by their flags.
+fn startable_in(r: Record) -> u8
+    ensures { λ n. ⌜ n ≡ startableIn r ⌝ }
+{
+    count_of(slot_at(r, 0))
+        + count_of(slot_at(r, 1))
+        + count_of(slot_at(r, 2))
+        + count_of(slot_at(r, 3))
+}
+
 // Whether the place is not past d and in use.
 pub fn is_in_use(r: Record, place: u8) -> bool
     ensures { λ b. ⌜ b ≡ inUse r place ⌝ }
@@ -40,22 +54,20 @@ pub fn is_in_use(r: Record, place: u8) -> bool
 pub fn is_valid(r: Record) -> bool
     ensures { λ b. ⌜ b ≡ valid r ⌝ }
 {
-    is_in_use(r, r.current) & are_slots_valid(r)
+    is_in_use(r, r.current) & are_slots_valid(r) & (r.startable == startable_in(r))
 }
 
-// The record with one entry replaced; past d there is none.
-pub fn replace(r: Record, place: u8, s: Slot) -> Record
-    ensures { λ n. ⌜ n ≡ replaced r place s ⌝ }
+// How many slots are startable, as the record keeps it; 31 where it is invalid.
+pub fn startable_slots(r: Record) -> Counted
+    ensures { λ c. ⌜ countAnswerOf c ≡ startableOf r ⌝ }
 {
-    let mut n = r;
-    if place < 4 {
-        let i = place as usize;
-        n.slots[i] = s;
+    if is_valid(r) {
+        return Counted::Slots(r.startable);
     }
-    n
+    Counted::Refused(31)
 }
 
-// The record with n slots in use, a current, flags clear, and these tries in all four places.
+// The record with n slots in use and so startable, a current, flags clear, and these tries in all four places.
 pub fn new_record(n: u8, tries: u8) -> Record
     ensures { λ r. ⌜ r ≡ newRecord n tries ⌝ }
 {
@@ -66,5 +78,6 @@ pub fn new_record(n: u8, tries: u8) -> Record
     Record {
         slots: [a, b, c, d],
         current: 0,
+        startable: n,
     }
 }

@@ -1,22 +1,21 @@
 -- What the proofs of the operations cite: the facts that a valid record gives, the search, and each operation's result by its cases.
 -- Assumes nothing.
 use mathlib.Core.Path.{_≡_, refl, ap, sym, subst, _∙_}
-use mathlib.Core.List.{List, [], _∷_}
+use mathlib.Core.List.{[], _∷_}
 use mathlib.Core.Bool.{Bool, true, false, not, cond, _&&_}
 use Prim.Native.Nat.{ℕ, suc, _+_, _-_, _<_, _≤_}
 use native.Mathlib.Omega.{arith}
 use lib.Dec.{ltb, leb, eqb}
 use lib.ListN.{length, List·getD-eq-default}
-use lib.Seq.{set-out}
-use borrow.Author.Tests.{ltb-true, le-ltb, lt-leb}
-use Rattle.rules.specs.Answer.{refused, numberOf}
+use borrow.Author.Tests.{ltb-true, le-ltb, lt-leb, eqb-true, ne-eqb}
+use Rattle.rules.specs.Answer.{accepted, refused, unless, numberOf}
 use Rattle.slot_rules.specs.declared.Slot.{Slot}
 use Rattle.slot_rules.proofs.Tests.{and-left, and-right, and-false}
 use Rattle.slot_rules.specs.declared.Record.{Record}
-use Rattle.slot_rules.specs.OneSlot.{slotValid, mayStart, mayTakeOver, mayConfirm, spent, marked, confirmed, newSlot}
-use Rattle.slot_rules.specs.Records.{slotAt, currentSlot, inUse, slotsValid, valid, replaced, withCurrent, newRecord}
+use Rattle.slot_rules.specs.OneSlot.{slotValid, countOf, mayStart, mayTakeOver, mayConfirm, spent, marked, confirmed, newSlot}
+use Rattle.slot_rules.specs.Records.{slotAt, currentSlot, inUse, slotsValid, startableIn, valid, replaced, withCurrent, newRecord}
 use Rattle.slot_rules.specs.Answers.{starts, recovery, done, Change, beside, change}
-use Rattle.slot_rules.specs.Operations.{takesOver, firstFrom, firstOther, takeOver, freshOf, startOf, onSlot, confirmOf}
+use Rattle.slot_rules.specs.Operations.{takesOver, firstFrom, firstOther, takeOver, freshOf, startOf, onSlot, confirmOf, startableOf}
 
 -- a place in use is one of the four
 pub in-use-place : (r : Record) (i : ℕ) → inUse r i ≡ true → i < 4
@@ -26,18 +25,33 @@ in-use-place r i e = ltb-true i 4 (and-left (ltb i 4) (slotAt r i .used) e)
 pub in-use-read : (r : Record) (k : ℕ) {s : Slot} → s ≡ slotAt r k → (ltb k 4 && s .used) ≡ inUse r k
 in-use-read r k e = ap (λ (s : Slot). ltb k 4 && s .used) e
 
--- past d no slot is in use, and none is replaced, in a record of four slots
-module _ (r : Record) (four : length (r .slots) ≡ 4) (k : ℕ) (h : 4 ≤ k) where
-  pub slot-past : newSlot false 0 ≡ slotAt r k
-  slot-past = sym (List·getD-eq-default (r .slots) (newSlot false 0) (subst (λ (n : ℕ). n ≤ k) (sym four) h))
+-- past d no slot is in use, in a record of four slots
+pub slot-past : (r : Record) → length (r .slots) ≡ 4 → (k : ℕ) → 4 ≤ k → newSlot false 0 ≡ slotAt r k
+slot-past r four k h = sym (List·getD-eq-default (r .slots) (newSlot false 0) (subst (λ (n : ℕ). n ≤ k) (sym four) h))
 
-  pub replaced-past : (s : Slot) → r ≡ replaced r k s
-  replaced-past s = ap (λ (xs : List Slot). record { slots = xs; current = r .current }) (sym (set-out (r .slots) k s (subst (λ (n : ℕ). n ≤ k) (sym four) h)))
+-- a valid record: its current slot is in use, its slots are valid, its count is that of its flags
+module _ (r : Record) (v : valid r ≡ true) where
+  flags : (inUse r (r .current) && slotsValid r) ≡ true
+  unfolding valid
+  flags = and-left (inUse r (r .current) && slotsValid r) (eqb (r .startable) (startableIn r)) v
 
--- the current slot of a valid record is in use
-pub valid-in-use : (r : Record) → valid r ≡ true → inUse r (r .current) ≡ true
-unfolding valid
-valid-in-use r e = and-left (inUse r (r .current)) (slotsValid r) e
+  pub valid-in-use : inUse r (r .current) ≡ true
+  valid-in-use = and-left (inUse r (r .current)) (slotsValid r) flags
+
+  pub valid-slots : slotsValid r ≡ true
+  valid-slots = and-right (inUse r (r .current)) (slotsValid r) flags
+
+  pub valid-count : r .startable ≡ startableIn r
+  unfolding valid
+  valid-count = eqb-true (r .startable) (startableIn r) (and-right (inUse r (r .current) && slotsValid r) (eqb (r .startable) (startableIn r)) v)
+
+-- what is asked where a slot is replaced, s being the slot that was read: by the test of the current one, and by the tests of any
+module _ (r : Record) {a : Bool} {s : Slot} (ea : a ≡ valid r) where
+  pub current-ready : a ≡ true → s ≡ currentSlot r → (valid r ≡ true) × (inUse r (r .current) ≡ true) × (s ≡ currentSlot r)
+  current-ready e p = (sym ea ∙ e, valid-in-use r (sym ea ∙ e), p)
+
+  pub slot-ready : (k : ℕ) {b : Bool} → b ≡ inUse r k → (a && b) ≡ true → s ≡ slotAt r k → (valid r ≡ true) × (inUse r k ≡ true) × (s ≡ slotAt r k)
+  slot-ready k {b = b} eb e p = (sym ea ∙ and-left a b e, sym eb ∙ and-right a b e, p)
 
 -- a turn of the search
 module _ (r : Record) (k : ℕ) (h : k < 4) where
@@ -57,7 +71,12 @@ pub none : (r : Record) (k : ℕ) → 4 ≤ k → firstFrom r (4 - k) k ≡ 4
 unfolding firstFrom
 none r k h = let q : 4 - k ≡ 0 = omega arith in ap (λ (n : ℕ). firstFrom r n k) q
 
--- an invalid record is refused by each operation
+-- a record whose count differs from its flags is invalid
+pub miscounted : (r : Record) → (r .startable ≡ startableIn r → ⊥) → valid r ≡ false
+unfolding valid
+miscounted r h = ap (_&&_ (inUse r (r .current) && slotsValid r)) (ne-eqb (r .startable) (startableIn r) h) ∙ and-false (inUse r (r .current) && slotsValid r)
+
+-- an invalid record is refused by each operation, and by the count's reader
 module _ (r : Record) (v : valid r ≡ false) where
   pub start-invalid : startOf r ≡ beside (refused 31 0) r
   unfolding startOf
@@ -71,7 +90,15 @@ module _ (r : Record) (v : valid r ≡ false) where
   unfolding confirmOf
   confirm-invalid = simp v
 
+  pub count-invalid : startableOf r ≡ refused 31 0
+  unfolding startableOf
+  count-invalid = simp v
+
 module _ (r : Record) (v : valid r ≡ true) where
+  pub count-told : startableOf r ≡ accepted (r .startable)
+  unfolding startableOf
+  count-told = ap (λ (b : Bool). unless (cond (not b) 31 0) 0 (accepted (startableIn r))) v ∙ ap accepted (sym (valid-count r v))
+
   pub start-own : mayStart (currentSlot r) ≡ true → startOf r ≡ change (starts (r .current)) (replaced r (r .current) (spent (currentSlot r)))
   unfolding startOf
   start-own e = simp (v, e)
@@ -104,7 +131,14 @@ module _ (r : Record) (v : valid r ≡ true) where
   unfolding confirmOf
   confirm-done e = simp (v, e)
 
--- Start is refused exactly where the record is invalid
+-- Start is refused exactly where the record is invalid, and so is the count's reader
+pub count-number : (r : Record) → numberOf (startableOf r) ≡ cond (not (valid r)) 31 0
+unfolding startableOf
+count-number r = go (valid r) where
+  go : (b : Bool) → numberOf (unless (cond (not b) 31 0) 0 (accepted (startableIn r))) ≡ cond (not b) 31 0
+  go true = refl
+  go false = refl
+
 pub start-number : (r : Record) → numberOf (startOf r .answer) ≡ cond (not (valid r)) 31 0
 start-number r = go (valid r) refl where
   go : (b : Bool) → valid r ≡ b → numberOf (startOf r .answer) ≡ cond (not b) 31 0
@@ -182,10 +216,15 @@ pub all-four : (r : Record) {s t u w : Slot} {a b c d : Bool} → s ≡ slotAt r
 unfolding slotsValid
 all-four r es et eu ew ea eb ec ed = rw (ea, eb, ec, ed, es, et, eu, ew)
 
-pub both : (r : Record) (a b : Bool) → a ≡ inUse r (r .current) → b ≡ slotsValid r → (a && b) ≡ valid r
+pub all-tests : (r : Record) {a b : Bool} {n : ℕ} → a ≡ inUse r (r .current) → b ≡ slotsValid r → n ≡ startableIn r → (a && b && eqb (r .startable) n) ≡ valid r
 unfolding valid
-both r a b ea eb = rw (ea, eb)
+all-tests r ea eb en = rw (ea, eb, en)
+
+-- the count of the four slots, by the slots that were read
+pub four-counts : (r : Record) {s t u w : Slot} {a b c d : ℕ} → s ≡ slotAt r 0 → t ≡ slotAt r 1 → u ≡ slotAt r 2 → w ≡ slotAt r 3 → a ≡ countOf s → b ≡ countOf t → c ≡ countOf u → d ≡ countOf w → a + b + c + d ≡ startableIn r
+unfolding startableIn
+four-counts r es et eu ew ea eb ec ed = rw (ea, eb, ec, ed, es, et, eu, ew)
 
 -- a fresh record, slot by slot
-pub four-new : (n t : ℕ) (a b c d : Slot) → a ≡ newSlot (ltb 0 n) t → b ≡ newSlot (ltb 1 n) t → c ≡ newSlot (ltb 2 n) t → d ≡ newSlot (ltb 3 n) t → _≡_ {A = Record} (record { slots = a ∷ b ∷ c ∷ d ∷ []; current = 0 }) (newRecord n t)
+pub four-new : (n t : ℕ) (a b c d : Slot) → a ≡ newSlot (ltb 0 n) t → b ≡ newSlot (ltb 1 n) t → c ≡ newSlot (ltb 2 n) t → d ≡ newSlot (ltb 3 n) t → _≡_ {A = Record} (record { slots = a ∷ b ∷ c ∷ d ∷ []; current = 0; startable = n }) (newRecord n t)
 four-new n t a b c d ea eb ec ed = rw (ea, eb, ec, ed)

@@ -1,30 +1,30 @@
 -- What holds of every operation on every record.
 -- Assumes nothing.
 use mathlib.Core.Path.{_≡_, refl, sym, ap, subst, _∙_}
-use mathlib.Core.Bool.{Bool, true, false, cond, _&&_, _||_}
-use Prim.Native.Nat.{ℕ, zero, suc, _<_, _≤_}
+use mathlib.Core.Bool.{Bool, true, false, not, cond, _&&_, _||_}
+use Prim.Native.Nat.{ℕ, zero, suc, _+_, _<_, _≤_}
 use native.Mathlib.Omega.{arith}
 use lib.Dec.{ltb, leb}
-use borrow.Author.Tests.{ne-eqb}
+use borrow.Author.Tests.{eq-eqb, ne-eqb}
 use Rattle.rules.specs.First.{first}
 use Rattle.rules.specs.Answer.{Answer, accepted, refused, numberOf}
 use Rattle.slot_rules.specs.declared.Slot.{Slot}
 use Rattle.slot_rules.specs.declared.Record.{Record}
 use Rattle.slot_rules.specs.declared.Op.{Op}
 use Rattle.slot_rules.specs.declared.Op.the-variants.{Start, SetActive, Modified, Corrupted, Confirm}
-use Rattle.slot_rules.specs.OneSlot.{slotValid, mayStart, marked, activated, modified, damaged}
-use Rattle.slot_rules.specs.Records.{slotAt, currentSlot, inUse, slotsValid, valid, replaced, withCurrent, newRecord}
-use Rattle.slot_rules.specs.Answers.{Deed, starts, done, Change, change}
-use Rattle.slot_rules.specs.Operations.{freshTests, freshOf, firstOther, startOf, corruptedOf, confirmOf}
+use Rattle.slot_rules.specs.OneSlot.{slotValid, countOf, stepped, mayStart, marked, activated, modified, damaged}
+use Rattle.slot_rules.specs.Records.{slotAt, currentSlot, inUse, slotsValid, startableIn, valid, replaced, withCurrent, newRecord}
+use Rattle.slot_rules.specs.Answers.{Deed, starts, done, Change, beside, change, refusedOr}
+use Rattle.slot_rules.specs.Operations.{freshTests, freshOf, startTests, firstOther, startOf, corruptedOf, confirmOf, startableOf}
 use Rattle.slot_rules.specs.Applied.{apply}
 use Rattle.slot_rules.specs.Promises.{about, startsSlot, isDone, renews, confirms, marks, givesWay, triesAfter, currentAfter, Lawful, Started, Damages, RefusalNumbers, PastD, Promises}
-use Rattle.rules.proofs.Answer.{has-number}
-use Rattle.slot_rules.proofs.Tests.{and-right, and-false}
+use Rattle.rules.proofs.Answer.{unless-number, has-number}
+use Rattle.slot_rules.proofs.Tests.{and-false}
 use Rattle.slot_rules.proofs.OneSlot.{clash, by-cond, corrupted-unsound, corrupted-stuck, starts-bootable, starts-intact}
 use Rattle.slot_rules.proofs.Answers.{starts-none, not-refused, refusedOr-numbered}
-use Rattle.slot_rules.proofs.Laws.{valid-in-use, start-other, on-slot-done, confirm-unsound, past-alike, fresh-made, fresh-none, fresh-past}
-use Rattle.slot_rules.proofs.Places.{replaced-here, by-place, each-valid, all-valid, in-use-used}
-use Rattle.slot_rules.proofs.Steps.{Made, Step, refusal, entry, step}
+use Rattle.slot_rules.proofs.Laws.{valid-in-use, valid-slots, valid-count, miscounted, count-invalid, count-told, start-other, on-slot-done, confirm-unsound, past-alike, fresh-made, fresh-none, fresh-past}
+use Rattle.slot_rules.proofs.Places.{replaced-here, by-place, each-valid, all-valid, in-use-used, count-replaced, count-moves}
+use Rattle.slot_rules.proofs.Steps.{Made, Step, refusal, entry, step, invalid-answer}
 
 -- a refusal renews no slot
 not-renewed : (o : Op) (n p i : ℕ) → renews o (refused n p) i ≡ false
@@ -73,15 +73,23 @@ module _ (o : Op) (r : Record) where
   others _ (entry d i s k known) j h =
       by-place r i s (known .place-used) (λ (j : ℕ) (t : Slot). (j ≡ about o r → ⊥) → t ≡ slotAt r j) (λ h. absurd (h (known .at-place))) (λ j _ _. refl) j h
 
+  -- the count that is kept steps as the count of the flags does
+  right : (c : Change) → Step o r c → valid r ≡ true → c .after .startable ≡ startableIn (c .after)
+  right _ (refusal _ _) v = valid-count r v
+  right _ (entry d i s k known) v = count-replaced r i (known .place-used) s (valid-count r v) k
+
+  steps : (c : Change) → Step o r c → c .after .startable + countOf (slotAt r (about o r)) ≡ r .startable + countOf (slotAt (c .after) (about o r))
+  steps _ (refusal _ _) = refl
+  steps _ (entry d i s k known) =
+      subst (λ (j : ℕ). stepped (r .startable) (slotAt r i) s + countOf (slotAt r j) ≡ r .startable + countOf (slotAt (replaced r i s) j)) (known .at-place)
+      (count-moves r i (known .place-used) s (valid-count r (known .was-valid)))
+
   stays : (c : Change) → Step o r c → valid r ≡ true → valid (c .after) ≡ true
   unfolding valid
   stays _ (refusal _ _) v = v
-  stays _ (entry d i s k known) v = simp (current, slots) where
-    olds : (j : ℕ) → j < 4 → slotValid (slotAt r j) ≡ true
-    olds = each-valid r (and-right (inUse r (r .current)) (slotsValid r) v)
-
+  stays _ (entry d i s k known) v = simp (current, slots, eq-eqb _ _ (right _ (entry d i s k known) v)) where
     slots : slotsValid (withCurrent (replaced r i s) k) ≡ true
-    slots = all-valid (withCurrent (replaced r i s) k) (by-place r i s (known .place-used) (λ (j : ℕ) (t : Slot). j < 4 → slotValid t ≡ true) (λ _. known .made .still-valid) (λ j _. olds j))
+    slots = all-valid (withCurrent (replaced r i s) k) (by-place r i s (known .place-used) (λ (j : ℕ) (t : Slot). j < 4 → slotValid t ≡ true) (λ _. known .made .still-valid) (λ j _. each-valid r (valid-slots r v) j))
 
     current : inUse (withCurrent (replaced r i s) k) k ≡ true
     current = ap (_&&_ (ltb k 4)) (uses _ (entry d i s k known) k) ∙ known .current-used
@@ -123,6 +131,8 @@ pub lawful : (o : Op) (r : Record) → Lawful o r
 lawful o r = record {
   refusal-keeps = keeps o r (apply o r) (step o r);
   stays-valid = stays o r (apply o r) (step o r);
+  count-right = right o r (apply o r) (step o r);
+  count-steps = steps o r (apply o r) (step o r);
   unused-kept = unused o r (apply o r) (step o r);
   others-kept = others o r (apply o r) (step o r);
   use-kept = uses o r (apply o r) (step o r);
@@ -190,13 +200,25 @@ not-confirmed r v e = ap (λ (c : Change). c .answer) (confirm-unsound r v (corr
 
 -- a fresh record for 1 to 4 slots is valid
 pub fresh-valid : (n : ℕ) → 1 ≤ n → n ≤ 4 → (freshOf n .answer ≡ accepted done) × (valid (freshOf n .after) ≡ true)
-unfolding freshOf valid slotsValid
+unfolding freshOf valid slotsValid startableIn
 fresh-valid zero h l = absurd (omega arith)
 fresh-valid (suc zero) h l = (refl, refl)
 fresh-valid (suc (suc zero)) h l = (refl, refl)
 fresh-valid (suc (suc (suc zero))) h l = (refl, refl)
 fresh-valid (suc (suc (suc (suc zero)))) h l = (refl, refl)
 fresh-valid (suc (suc (suc (suc (suc n))))) h l = absurd (omega arith)
+
+-- a wrong count is refused by every operation and by the count's reader
+pub wrong-count : (o : Op) (r : Record) → (r .startable ≡ startableIn r → ⊥) → (apply o r ≡ beside (refused 31 0) r) × (startableOf r ≡ refused 31 0)
+wrong-count o r h = (invalid-answer r (miscounted r h) o, count-invalid r (miscounted r h))
+
+-- the count of a fresh record, and beside its refusal
+pub fresh-count : (n : ℕ) → freshOf n .after .startable ≡ cond (leb 1 n && leb n 4) n 0
+unfolding freshOf
+fresh-count n = go (leb 1 n && leb n 4) where
+  go : (b : Bool) → refusedOr (cond (not b) 31 0) (newRecord 0 0) (change done (newRecord n 3)) .after .startable ≡ cond b n 0
+  go true = refl
+  go false = refl
 
 -- a fresh record, or the one beside its refusal, has every flag clear
 abbrev Clear : Slot → Type 0
@@ -217,10 +239,11 @@ fresh-clear n i = go (leb 1 n && leb n 4) refl where
 
 -- no refusal has the number 0
 pub refusal-numbers : RefusalNumbers
-unfolding freshOf
+unfolding freshOf startableOf
 refusal-numbers = record {
   operation = λ o r. has-number (apply o r .answer) (numbers o r (apply o r) (step o r));
   fresh = λ k. has-number (freshOf k .answer) (refusedOr-numbered (first (freshTests k)) (newRecord 0 0) (newRecord k 3) done);
+  startable = λ r. unless-number (first (startTests r)) 0 (accepted (startableIn r)) tt;
 }
 
 -- all numbers past d are refused alike
@@ -233,4 +256,4 @@ past-d = record {
 }
 
 pub promises : Promises
-promises = record { lawful = lawful; started = started; gives-way = gives-way; damages = damages; not-confirmed = not-confirmed; fresh-valid = fresh-valid; fresh-clear = fresh-clear; refusal-numbers = refusal-numbers; past-d = past-d }
+promises = record { lawful = lawful; started = started; gives-way = gives-way; damages = damages; not-confirmed = not-confirmed; fresh-valid = fresh-valid; fresh-clear = fresh-clear; wrong-count = wrong-count; count-read = count-told; fresh-count = fresh-count; refusal-numbers = refusal-numbers; past-d = past-d }

@@ -12,13 +12,13 @@ use Rattle.slot_rules.specs.declared.Record.{Record}
 use Rattle.slot_rules.specs.declared.Op.{Op}
 use Rattle.slot_rules.specs.declared.Op.the-variants.{Start, SetActive, Modified, Corrupted, Confirm}
 use Rattle.slot_rules.specs.OneSlot.{slotValid, mayStart, mayTakeOver, mayConfirm, withTries, spent, marked, activated, modified, damaged, confirmed}
-use Rattle.slot_rules.specs.Records.{slotAt, currentSlot, inUse, slotsValid, valid, replaced, withCurrent}
+use Rattle.slot_rules.specs.Records.{slotAt, currentSlot, inUse, valid, replaced, withCurrent}
 use Rattle.slot_rules.specs.Answers.{Deed, starts, recovery, done, Change, beside, change}
 use Rattle.slot_rules.specs.Operations.{takesOver, firstFrom, firstOther, startOf, onSlot, confirmOf}
 use Rattle.slot_rules.specs.Applied.{apply}
 use Rattle.slot_rules.specs.Promises.{about, startsSlot, renews, confirms, marks, givesWay, triesAfter, currentAfter}
 use Rattle.slot_rules.proofs.Tests.{and-left, and-right}
-use Rattle.slot_rules.proofs.Laws.{in-use-place, valid-in-use, start-own, start-other, start-invalid, on-slot-invalid, on-slot-unused, on-slot-done, confirm-invalid, confirm-unsound, confirm-done}
+use Rattle.slot_rules.proofs.Laws.{in-use-place, valid-in-use, valid-slots, start-own, start-other, start-invalid, on-slot-invalid, on-slot-unused, on-slot-done, confirm-invalid, confirm-unsound, confirm-done}
 use Rattle.slot_rules.proofs.Answers.{starts-one, starts-none}
 use Rattle.slot_rules.proofs.OneSlot.{clash, by-cond, renewed-valid, spent-valid, spent-same, marked-valid, damaged-valid, confirmed-valid, stuck-corrupted, over-used, over-successful, over-starts}
 use Rattle.slot_rules.proofs.Places.{each-valid, in-use-used}
@@ -38,6 +38,7 @@ pub record Made (o : Op) (r : Record) (d : Deed) (i : ℕ) (s : Slot) : Type 0 w
 
 -- what is known where o does d, puts s in place i and makes k current
 pub record Entry (o : Op) (r : Record) (d : Deed) (i : ℕ) (s : Slot) (k : ℕ) : Type 0 where
+  pub was-valid : valid r ≡ true
   pub made : Made o r d i s
   pub at-place : i ≡ about o r
   pub place-used : inUse r i ≡ true
@@ -59,8 +60,7 @@ found r (suc n) k h = by-cond (takesOver r k) (λ (m : ℕ). m < 4 → takesOver
 
 module _ (r : Record) (v : valid r ≡ true) where
   each : (i : ℕ) → inUse r i ≡ true → slotValid (slotAt r i) ≡ true
-  unfolding valid
-  each i u = each-valid r (and-right (inUse r (r .current)) (slotsValid r) v) i (in-use-place r i u)
+  each i u = each-valid r (valid-slots r v) i (in-use-place r i u)
 
   used : inUse r (r .current) ≡ true
   used = valid-in-use r v
@@ -83,6 +83,7 @@ module _ (r : Record) (v : valid r ≡ true) where
 
   own-entry : mayStart (currentSlot r) ≡ true → Entry Start r (starts (r .current)) (r .current) (spent (currentSlot r)) (r .current)
   own-entry m = record {
+    was-valid = v;
     made = spent-made;
     at-place = refl;
     place-used = used;
@@ -110,6 +111,7 @@ module _ (r : Record) (v : valid r ≡ true) where
 
     other-entry : (k : ℕ) → k < 4 → takesOver r k ≡ true → Entry Start r (starts k) (r .current) (marked (currentSlot r)) k
     other-entry k h t = record {
+      was-valid = v;
       made = marked-made (starts k) (ne-eqb (r .current) k (λ e. other (sym e)));
       at-place = refl;
       place-used = used;
@@ -131,6 +133,7 @@ module _ (r : Record) (v : valid r ≡ true) where
 
     none-entry : Entry Start r recovery (r .current) (marked (currentSlot r)) (r .current)
     none-entry = record {
+      was-valid = v;
       made = marked-made recovery refl;
       at-place = refl;
       place-used = used;
@@ -194,6 +197,7 @@ module _ (r : Record) (v : valid r ≡ true) where
   -- an operation that is done, of which no slot starts
   done-entry : (o : Op) (s : Slot) (k : ℕ) → inUse r (about o r) ≡ true → inUse r k ≡ true → k ≡ currentAfter o (accepted done) r → Made o r done (about o r) s → Entry o r done (about o r) s k
   done-entry o s k u w c m = record {
+    was-valid = v;
     made = m;
     at-place = refl;
     place-used = u;

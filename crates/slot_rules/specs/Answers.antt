@@ -6,6 +6,8 @@ use Rattle.slot_rules.specs.declared.Record.{Record}
 use Rattle.slot_rules.specs.declared.Changed.{Changed}
 use Rattle.slot_rules.specs.declared.Outcome.{Outcome}
 use Rattle.slot_rules.specs.declared.Outcome.the-variants.{Starts, Recovery, Done, Refused}
+use Rattle.slot_rules.specs.declared.Counted.{Counted}
+use Rattle.slot_rules.specs.declared.Counted.the-variants as counted
 
 -- what an operation that is not refused does: a slot starts, Recovery, or a change is made
 pub data Deed : Type 0 where
@@ -24,6 +26,11 @@ answerOf (Starts k) = accepted (starts k)
 answerOf Recovery = accepted recovery
 answerOf Done = accepted done
 answerOf (Refused n) = refused n 0
+
+-- what each case of the count's answer says
+abbrev pub countAnswerOf : Counted → Answer ℕ
+countAnswerOf (counted.Slots n) = accepted n
+countAnswerOf (counted.Refused n) = refused n 0
 
 -- what the result of an operation says
 abbrev pub changeOf : Changed → Change

@@ -1,7 +1,7 @@
 -- What the rules say of one slot: what makes it valid, what it may do, and what each operation makes of it.
 -- Assumes nothing.
 use mathlib.Core.Bool.{Bool, true, false, not, cond, _&&_, _||_}
-use Prim.Native.Nat.{ℕ, _-_}
+use Prim.Native.Nat.{ℕ, _+_, _-_}
 use lib.Dec.{ltb, leb}
 use Rattle.slot_rules.specs.declared.Slot.{Slot}
 
@@ -12,6 +12,14 @@ slotValid s = not (s .used) || (leb (s .tries) 7 && not (s .unbootable && s .suc
 -- neither unbootable nor corrupted
 abbrev pub sound : Slot → Bool
 sound s = not (s .unbootable) && not (s .corrupted)
+
+-- what a slot adds to the count of "slots in use" that "are neither unbootable nor corrupted"
+abbrev pub countOf : Slot → ℕ
+countOf s = cond (s .used && sound s) 1 0
+
+-- the count n after a slot that was s becomes t: "Every operation keeps it right"
+abbrev pub stepped : ℕ → Slot → Slot → ℕ
+stepped n s t = n + countOf t - countOf s
 
 -- Start: "not unbootable, and is successful or has tries above 0"; "A corrupted slot may not start, successful or not"
 abbrev pub mayStart : Slot → Bool

@@ -5,10 +5,11 @@ use mathlib.Core.List.{List, [], _∷_}
 use Prim.Native.Nat.{ℕ, zero, suc, _+_}
 use lib.Dec.{ltb, leb, eqb}
 use Rattle.rules.specs.First.{first}
+use Rattle.rules.specs.Answer.{Answer, accepted, unless}
 use Rattle.slot_rules.specs.declared.Slot.{Slot}
 use Rattle.slot_rules.specs.declared.Record.{Record}
 use Rattle.slot_rules.specs.OneSlot.{mayStart, mayTakeOver, mayConfirm, spent, marked, activated, modified, damaged, confirmed}
-use Rattle.slot_rules.specs.Records.{slotAt, currentSlot, inUse, valid, replaced, withCurrent, newRecord}
+use Rattle.slot_rules.specs.Records.{slotAt, currentSlot, inUse, startableIn, valid, replaced, withCurrent, newRecord}
 use Rattle.slot_rules.specs.Answers.{Change, starts, recovery, done, change, refusedOr}
 
 -- 31: a number of slots that is not 1 to 4
@@ -78,3 +79,7 @@ confirmTests r = (not (valid r), 31) ∷ (not (mayConfirm (currentSlot r)), 33) 
 -- Confirm: the current slot, if neither unbootable nor corrupted, "becomes successful"
 unfoldable pub confirmOf : Record → Change
 confirmOf r = refusedOr (first (confirmTests r)) r (change done (replaced r (r .current) (confirmed (currentSlot r))))
+
+-- "the lamp reads it": how many slots of a valid record are startable, by its flags; an invalid one gives 31, as Start does
+unfoldable pub startableOf : Record → Answer ℕ
+startableOf r = unless (first (startTests r)) 0 (accepted (startableIn r))

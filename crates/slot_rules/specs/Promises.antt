@@ -2,17 +2,17 @@
 -- Assumes nothing.
 use mathlib.Core.Path.{_≡_}
 use mathlib.Core.Bool.{Bool, true, false, not, cond, _&&_, _||_}
-use Prim.Native.Nat.{ℕ, _-_, _<_, _≤_}
-use lib.Dec.{eqb}
+use Prim.Native.Nat.{ℕ, _+_, _-_, _<_, _≤_}
+use lib.Dec.{leb, eqb}
 use Rattle.rules.specs.Answer.{Answer, accepted, refused, HasNumber}
 use Rattle.slot_rules.specs.declared.Slot.{Slot}
 use Rattle.slot_rules.specs.declared.Record.{Record}
 use Rattle.slot_rules.specs.declared.Op.{Op}
 use Rattle.slot_rules.specs.declared.Op.the-variants.{Start, SetActive, Modified, Corrupted, Confirm}
-use Rattle.slot_rules.specs.OneSlot.{mayStart}
-use Rattle.slot_rules.specs.Records.{slotAt, currentSlot, inUse, valid}
-use Rattle.slot_rules.specs.Answers.{Deed, starts, recovery, done}
-use Rattle.slot_rules.specs.Operations.{freshOf, startOf, setActiveOf, modifiedOf, corruptedOf, confirmOf}
+use Rattle.slot_rules.specs.OneSlot.{countOf, mayStart}
+use Rattle.slot_rules.specs.Records.{slotAt, currentSlot, inUse, startableIn, valid}
+use Rattle.slot_rules.specs.Answers.{Deed, starts, recovery, done, beside}
+use Rattle.slot_rules.specs.Operations.{freshOf, startOf, setActiveOf, modifiedOf, corruptedOf, confirmOf, startableOf}
 use Rattle.slot_rules.specs.Applied.{apply}
 
 -- the record after an operation
@@ -98,6 +98,10 @@ pub record Lawful (o : Op) (r : Record) : Type 0 where
   pub refusal-keeps : (n p : ℕ) → apply o r .answer ≡ refused n p → after o r ≡ r
   -- every operation keeps a valid record valid
   pub stays-valid : valid r ≡ true → valid (after o r) ≡ true
+  -- "Every operation keeps it right": the count that is kept is that of the flags
+  pub count-right : valid r ≡ true → after o r .startable ≡ startableIn (after o r)
+  -- the count changes by what the slot that the operation is about was and what it is
+  pub count-steps : after o r .startable + countOf (slotAt r (about o r)) ≡ r .startable + countOf (slotAt (after o r) (about o r))
   -- "unused places are ignored and kept"
   pub unused-kept : (i : ℕ) → slotAt r i .used ≡ false → slotAt (after o r) i ≡ slotAt r i
   -- no slot changes but the one that the operation is about: a corrupted slot that is not current outlasts Start as it is
@@ -145,6 +149,7 @@ pub record Damages (r : Record) (k : ℕ) : Type 0 where
 pub record RefusalNumbers : Type 0 where
   pub operation : (o : Op) (r : Record) → HasNumber (apply o r .answer)
   pub fresh : (slots : ℕ) → HasNumber (freshOf slots .answer)
+  pub startable : (r : Record) → HasNumber (startableOf r)
 
 -- all numbers past d are refused alike, and so are all numbers of slots past 4
 pub record PastD : Type 0 where
@@ -153,7 +158,7 @@ pub record PastD : Type 0 where
   pub corrupted : (r : Record) (k : ℕ) → 4 ≤ k → corruptedOf r k ≡ corruptedOf r 4
   pub fresh : (n : ℕ) → 4 < n → freshOf n ≡ freshOf 5
 
--- every operation is lawful; what Start starts is in use and was neither unbootable nor corrupted; a corrupted slot gives way and is not confirmed; a fresh record for 1 to 4 slots is valid, and the flags of every fresh record are clear
+-- every operation is lawful; what Start starts is in use and was neither unbootable nor corrupted; a corrupted slot gives way and is not confirmed; a fresh record for 1 to 4 slots is valid, and the flags of every fresh record are clear; the count is refused where it differs from the flags, and read where it does not
 pub record Promises : Type 0 where
   pub lawful : (o : Op) (r : Record) → Lawful o r
   pub started : (r : Record) (k : ℕ) → startOf r .answer ≡ accepted (starts k) → Started r k
@@ -166,5 +171,11 @@ pub record Promises : Type 0 where
   pub fresh-valid : (n : ℕ) → 1 ≤ n → n ≤ 4 → (freshOf n .answer ≡ accepted done) × (valid (freshOf n .after) ≡ true)
   -- "in all four places flags clear", corrupted among them, and so beside the refusal
   pub fresh-clear : (n i : ℕ) → (slotAt (freshOf n .after) i .unbootable ≡ false) × (slotAt (freshOf n .after) i .successful ≡ false) × (slotAt (freshOf n .after) i .corrupted ≡ false)
+  -- "A record whose count differs from its flags is invalid (31)": every operation hands it back, and the count's reader refuses it
+  pub wrong-count : (o : Op) (r : Record) → (r .startable ≡ startableIn r → ⊥) → (apply o r ≡ beside (refused 31 0) r) × (startableOf r ≡ refused 31 0)
+  -- "the lamp reads it": what is answered is the count that a valid record keeps
+  pub count-read : (r : Record) → valid r ≡ true → startableOf r ≡ accepted (r .startable)
+  -- a fresh record's count is the number of its slots, and 0 beside the refusal
+  pub fresh-count : (n : ℕ) → freshOf n .after .startable ≡ cond (leb 1 n && leb n 4) n 0
   pub refusal-numbers : RefusalNumbers
   pub past-d : PastD

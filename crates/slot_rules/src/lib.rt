@@ -9,10 +9,12 @@ pub struct Slot {
     pub tries: u8,
 }
 
-// Four slots of fixed place, and which of them is current.
+// Four slots of fixed place, which of them is current, and how many are startable: in use and neither
+// unbootable nor corrupted.
 pub struct Record {
     pub slots: [Slot; 4],
     pub current: u8,
+    pub startable: u8,
 }
 
 // What an operation answers: the slot to start, Recovery, a change made, or the number of a refusal.
@@ -27,6 +29,12 @@ pub enum Outcome {
 pub struct Changed {
     pub answer: Outcome,
     pub after: Record,
+}
+
+// How many slots of a record are startable, or the number of a refusal.
+pub enum Counted {
+    Slots(u8),
+    Refused(u32),
 }
 
 // An operation, with the slot that it is about.

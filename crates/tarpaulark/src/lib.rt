@@ -19,6 +19,7 @@ use tarpaulark_numbers::verdict_number;
 use tarpaulark_numbers::written_answer;
 use tarpaulark_numbers::written_number;
 ghost use mathlib.Core.Path.{_≡_};
+ghost use mathlib.Core.List.{[], _∷_};
 ghost use lib.ListN.{length};
 ghost use Rattle.rules.specs.First.{first};
 ghost use Rattle.rules.specs.Answer.{numberOf};
@@ -35,7 +36,7 @@ ghost use Rattle.sparse_write_rules.specs.Write as writer;
 ghost use Rattle.sparse_blocks_rules.specs.Pairs.{refusedImage};
 ghost use Rattle.sparse_diff_rules.specs.Diff as diff;
 ghost use Rattle.tarpaulark_numbers.specs.Numbers.{verdictNumbers, countNumbers, pairNumbers, chunkIn, chunkNumbers, headerNumbersBy, layoutNumbers};
-ghost use Rattle.slot_on_bytes.specs.OnBytes.{onBytes, freshBytes, bytesRefusal};
+ghost use Rattle.slot_on_bytes.specs.OnBytes.{onBytes, freshBytes, bytesRefusal, bytesStartable};
 
 // Judges an image for a partition of so many bytes. Answers place, then blocks written, don't care, unknown.
 #[no_mangle]
@@ -311,4 +312,15 @@ pub extern "C" fn tarpaulark_slots_valid(bytes: &[u8; RECORD]) -> u32
     ensures { λ r. ⌜ r ≡ bytesRefusal (now (bytes .entry)) ⌝ }
 {
     slot_on_bytes::bytes_refusal(*bytes)
+}
+
+// How many slots of a record are startable, as the record keeps it; the refusal 31 answers 0.
+#[no_mangle]
+pub extern "C" fn tarpaulark_slots_startable(bytes: &[u8; RECORD], out: &mut [u64; 1]) -> u32
+    ensures { λ r. ⌜ (r ≡ bytesStartable (now (bytes .entry)) .number)
+        × (now (out .exit) ≡ bytesStartable (now (bytes .entry)) .startable ∷ []) ⌝ }
+{
+    let told = slot_on_bytes::startable(*bytes);
+    *out = [told.startable];
+    told.number
 }

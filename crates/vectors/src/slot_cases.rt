@@ -3,15 +3,15 @@ use crate::support::part;
 use crate::support::value;
 
 // The bytes of a record.
-const RECORD: usize = 21;
+const RECORD: usize = 22;
 
 // The bytes of a case: operation, argument, record.
-const CASE: usize = 23;
+const CASE: usize = 24;
 
 // How many values an operation has.
-const VALUES: usize = 24;
+const VALUES: usize = 25;
 
-// The values of an operation, a byte each: number, kind, slot, and the record after.
+// The values of an operation, a byte each: number, kind, slot or count, and the record after.
 fn gathered(number: u32, kind: &[u64; 2], record: &[u8; RECORD]) -> [u8; VALUES] {
     let mut all = [0u8; VALUES];
     fields_write::copy(&mut all, 3, record);
@@ -19,6 +19,14 @@ fn gathered(number: u32, kind: &[u64; 2], record: &[u8; RECORD]) -> [u8; VALUES]
     all[1] = (kind[0] % 256) as u8;
     all[2] = (kind[1] % 256) as u8;
     all
+}
+
+// The lamp's number; its count goes into the place of the started slot.
+fn startable(record: &[u8; RECORD], kind: &mut [u64; 2]) -> u32 {
+    let mut count = [0u64; 1];
+    let number = tarpaulark::tarpaulark_slots_startable(record, &mut count);
+    kind[1] = count[0];
+    number
 }
 
 // What an operation on the record that bytes hold answers and leaves.
@@ -32,7 +40,8 @@ fn outcome(operation: u32, argument: u32, bytes: &[u8]) -> [u8; VALUES] {
         2 => tarpaulark::tarpaulark_slots_set_active(&mut record, argument, &mut kind),
         3 => tarpaulark::tarpaulark_slots_modified(&mut record, argument, &mut kind),
         4 => tarpaulark::tarpaulark_slots_confirm(&mut record, &mut kind),
-        _ => tarpaulark::tarpaulark_slots_corrupted(&mut record, argument, &mut kind),
+        5 => tarpaulark::tarpaulark_slots_corrupted(&mut record, argument, &mut kind),
+        _ => startable(&record, &mut kind),
     };
     gathered(number, &kind, &record)
 }
@@ -47,11 +56,11 @@ pub(crate) fn case(rest: &[u8]) -> usize {
     CASE
 }
 
-// The checksum's state after the values of the six operations, each with the arguments 0 to 4, on the record.
+// The checksum's state after the values of the seven operations, each with the arguments 0 to 4, on the record.
 fn summed(state: u32, record: &[u8]) -> u32 {
     let mut now = state;
     let mut n: u32 = 0;
-    while n < 30 {
+    while n < 35 {
         now = crc32::update(now, &outcome(n / 5, n % 5, record));
         n = n + 1;
     }

@@ -1,11 +1,11 @@
--- The worked examples P1 to P14, those of requests 4 and 5 and the lister's texts, computed together: every call of the table gives back what its row says.
+-- The worked examples P1 to P14, those of requests 4 to 6 and the lister's texts, computed together: every call of the table gives back what its row says.
 -- Assumes nothing.
 use mathlib.Core.Path.{refl}
 use lib.Count.{ones, onesIn}
 use Rattle.fields_rules.specs.Number.{numberAt, packed}
 use Rattle.crc32_rules.specs.Crc.{bit, steps, byteStep, crcFrom, crc32}
-use Rattle.slot_rules.specs.Records.{slotsValid, valid}
-use Rattle.slot_rules.specs.Operations.{firstFrom, startOf}
+use Rattle.slot_rules.specs.Records.{slotsValid, startableIn, valid}
+use Rattle.slot_rules.specs.Operations.{firstFrom, startOf, startableOf}
 use Rattle.boot_rules.specs.Sections.{sectionsOf}
 use Rattle.boot_rules.specs.Table.{rowOf}
 use Rattle.boot_rules.specs.Tests as boot
@@ -33,5 +33,5 @@ use Rattle.worked_examples.specs.Calls.{perform}
 use Rattle.worked_examples.specs.Table.{Worked}
 
 pub worked : Worked
-unfolding perform numberAt ones onesIn bit steps byteStep crcFrom crc32 slotsValid valid firstFrom startOf sectionsOf rowOf boot.headTests boot.sectionTests boot.answer headerTests kindOf sizeRight chunkTests chunkAt reading endTests walk cellsBy cellsOf cells zeroed checksumOf blocksWhere sumTests summed structure judged effectOf effect judge.answerFor judge.answer store blockCells blocksFrom flatBlocks runs allEqual storedKind packed chunkHeader chunk chunks version header image encode write.flatImage write.writeTests write.answer write.output blockFrom stretch blocksOf blocksFound found blocks alike each pairAnswer refusedImage diff.changes diff.diff diff.numbers diff.answer diff.listed listing listingOf labelled refusedLine headerLine chunkLine chunkLines lastLine digitsUpTo decimal kindWord
+unfolding perform numberAt ones onesIn bit steps byteStep crcFrom crc32 slotsValid startableIn valid firstFrom startOf startableOf sectionsOf rowOf boot.headTests boot.sectionTests boot.answer headerTests kindOf sizeRight chunkTests chunkAt reading endTests walk cellsBy cellsOf cells zeroed checksumOf blocksWhere sumTests summed structure judged effectOf effect judge.answerFor judge.answer store blockCells blocksFrom flatBlocks runs allEqual storedKind packed chunkHeader chunk chunks version header image encode write.flatImage write.writeTests write.answer write.output blockFrom stretch blocksOf blocksFound found blocks alike each pairAnswer refusedImage diff.changes diff.diff diff.numbers diff.answer diff.listed listing listingOf labelled refusedLine headerLine chunkLine chunkLines lastLine digitsUpTo decimal kindWord
 worked = refl

@@ -5,7 +5,7 @@ use Prim.Native.Nat.{ℕ}
 use lib.ListN.{length}
 use Rattle.slot_rules.specs.declared.Record.{Record}
 use Rattle.slot_rules.specs.Answers.{Change}
-use Rattle.slot_rules.specs.Operations.{startOf}
+use Rattle.slot_rules.specs.Operations.{startOf, startableOf}
 use Rattle.rules.specs.Answer.{Answer}
 use Rattle.boot_rules.specs.declared.Layout.{Layout}
 use Rattle.boot_rules.specs.Tests as boot
@@ -17,12 +17,13 @@ use Rattle.sparse_blocks_rules.specs.Pairs.{refusedImage}
 use Rattle.sparse_diff_rules.specs.Diff as diff
 use Rattle.sparse_list_rules.specs.Listing.{listing}
 
--- a call: an image stored on what a partition holds, flat bytes written at a block size into what an output holds, a boot image located, a slot record started, an image listed, two images compared into what a space holds
+-- a call: an image stored on what a partition holds, flat bytes written at a block size into what an output holds, a boot image located, a slot record started, or its count told, an image listed, two images compared into what a space holds
 pub data Call : Type 0 where
   stores : List ℕ → List ℕ → Call
   writes : List ℕ → ℕ → List ℕ → Call
   locates : List ℕ → Call
   starts : Record → Call
+  tells : Record → Call
   lists : List ℕ → Call
   compares : List ℕ → List ℕ → List ℕ → Call
 
@@ -32,6 +33,7 @@ pub data Result : Type 0 where
   written : Answer ℕ → List ℕ → Result
   located : Answer Layout → Result
   started : Change → Result
+  told : Answer ℕ → Result
   listed : List ℕ → Result
   compared : Answer ℕ → ℕ → List ℕ → Result
 
@@ -41,6 +43,7 @@ perform (stores s p) = stored (judge.answer s (length s) (length p)) (store.stor
 perform (writes d b out) = written (write.answer d b (length out)) (write.output d b out)
 perform (locates s) = located (boot.answer s)
 perform (starts r) = started (startOf r)
+perform (tells r) = told (startableOf r)
 perform (lists s) = listed (listing s)
 perform (compares s t space) = compared (diff.answer s t (length space)) (refusedImage s t) (diff.listed s t space)
 

@@ -124,6 +124,6 @@ corruptedSlot unbootable successful tries = record { used = true; unbootable = u
 abbrev pub unused : Slot
 unused = record { used = false; unbootable = false; successful = false; corrupted = false; tries = 0 }
 
--- a record of two slots, a and b
-abbrev pub two : ℕ → Slot → Slot → Record
-two current a b = record { slots = a ∷ b ∷ unused ∷ unused ∷ []; current = current }
+-- a record of two slots, a and b: current, the count that it keeps, and the two
+abbrev pub two : ℕ → ℕ → Slot → Slot → Record
+two current startable a b = record { slots = a ∷ b ∷ unused ∷ unused ∷ []; current = current; startable = startable }

@@ -8,7 +8,7 @@ use lib.ListN.{replicate}
 use Rattle.rules.specs.Answer.{accepted, refused}
 use Rattle.slot_rules.specs.Answers as slots
 use Rattle.text_rules.specs.Words.{ascii}
-use Rattle.worked_examples.specs.Calls.{Row, perform, stores, writes, locates, starts, lists, compares, stored, written, located, started, listed, compared}
+use Rattle.worked_examples.specs.Calls.{Row, perform, stores, writes, locates, starts, tells, lists, compares, stored, written, located, started, told, listed, compared}
 use Rattle.worked_examples.specs.Images.{emptyImage, twoChunks, p2, p7, counts, upFrom, flat, flatImage, firstOfTwo, secondOfTwo, boot3, boot2, section, none, layout, slot, corruptedSlot, two}
 
 -- P1: "writing 0 bytes at block size 4,096"
@@ -83,40 +83,56 @@ row11 =
 abbrev pub row12 : Row
 row12 =
     record {
-      call = starts (two 0 (slot false false 0) (slot false true 0));
-      result = started (slots.change (slots.starts 1) (two 1 (slot true false 0) (slot false true 0)));
+      call = starts (two 0 2 (slot false false 0) (slot false true 0));
+      result = started (slots.change (slots.starts 1) (two 1 1 (slot true false 0) (slot false true 0)));
     }
 
 -- P13: "b not successful: Recovery, a unbootable"
 abbrev pub row13 : Row
 row13 =
     record {
-      call = starts (two 0 (slot false false 0) (slot false false 3));
-      result = started (slots.change slots.recovery (two 0 (slot true false 0) (slot false false 3)));
+      call = starts (two 0 2 (slot false false 0) (slot false false 3));
+      result = started (slots.change slots.recovery (two 0 1 (slot true false 0) (slot false false 3)));
     }
 
 -- P14: "a current, tries 1, not successful: a starts, tries 0"
 abbrev pub row14 : Row
 row14 =
     record {
-      call = starts (two 0 (slot false false 1) (slot false false 3));
-      result = started (slots.change (slots.starts 0) (two 0 (slot false false 0) (slot false false 3)));
+      call = starts (two 0 2 (slot false false 1) (slot false false 3));
+      result = started (slots.change (slots.starts 0) (two 0 2 (slot false false 0) (slot false false 3)));
     }
 
 -- request 4: "A corrupted slot may not start, successful or not: if current, Start marks it unbootable and clears its successful flag"
 abbrev pub rowCorrupted : Row
 rowCorrupted =
     record {
-      call = starts (two 0 (corruptedSlot false true 3) (slot false true 0));
-      result = started (slots.change (slots.starts 1) (two 1 (corruptedSlot true false 3) (slot false true 0)));
+      call = starts (two 0 1 (corruptedSlot false true 3) (slot false true 0));
+      result = started (slots.change (slots.starts 1) (two 1 1 (corruptedSlot true false 3) (slot false true 0)));
     }
 
 -- request 4: "and it is no candidate"
 abbrev pub rowNoCandidate : Row
 rowNoCandidate =
     record {
-      call = starts (two 0 (slot false false 0) (corruptedSlot false true 3));
-      result = started (slots.change slots.recovery (two 0 (slot true false 0) (corruptedSlot false true 3)));
+      call = starts (two 0 1 (slot false false 0) (corruptedSlot false true 3));
+      result = started (slots.change slots.recovery (two 0 0 (slot true false 0) (corruptedSlot false true 3)));
+    }
+
+-- request 6: "how many slots in use are neither unbootable nor corrupted": tries do not matter
+abbrev pub rowCounted : Row
+rowCounted = record { call = tells (two 0 1 (slot true false 3) (slot false false 0)); result = told (accepted 1) }
+
+-- request 6: "A record whose count differs from its flags is invalid (31)"
+abbrev pub rowMiscounted : Row
+rowMiscounted = record { call = tells (two 0 2 (slot true false 3) (slot false false 0)); result = told (refused 31 0) }
+
+-- and Start hands it back as it was
+abbrev pub rowMiscountedStart : Row
+rowMiscountedStart =
+    record {
+      call = starts (two 0 1 (slot false false 1) (slot false false 3));
+      result = started (slots.beside (refused 31 0) (two 0 1 (slot false false 1) (slot false false 3)));
     }
 
 -- the lister: "For P2 it prints exactly", and as request 3 has its last line
@@ -155,10 +171,10 @@ rowComparedGeometry = record { call = compares p2 flatImage (replicate 9 7); res
 abbrev pub rowComparedSecond : Row
 rowComparedSecond = record { call = compares p2 (flatImage ++ (0 ∷ [])) (replicate 9 7); result = compared (refused 10 64) 2 (replicate 9 7) }
 
--- P1 to P14, two of request 4, the lister's texts, and four of request 5
+-- P1 to P14, two of request 4, three of request 6, the lister's texts, and four of request 5
 abbrev pub table : List Row
 table =
-    row1 ∷ row2 ∷ row3 ∷ row4 ∷ row5 ∷ row6 ∷ row7 ∷ row8 ∷ row8One ∷ row9 ∷ row9Short ∷ row10 ∷ row10Short ∷ row11 ∷ row12 ∷ row13 ∷ row14 ∷ rowCorrupted ∷ rowNoCandidate ∷ rowListed ∷ rowListedUnknown ∷ rowCompared ∷ rowComparedShort ∷ rowComparedGeometry ∷ rowComparedSecond ∷ []
+    row1 ∷ row2 ∷ row3 ∷ row4 ∷ row5 ∷ row6 ∷ row7 ∷ row8 ∷ row8One ∷ row9 ∷ row9Short ∷ row10 ∷ row10Short ∷ row11 ∷ row12 ∷ row13 ∷ row14 ∷ rowCorrupted ∷ rowNoCandidate ∷ rowCounted ∷ rowMiscounted ∷ rowMiscountedStart ∷ rowListed ∷ rowListedUnknown ∷ rowCompared ∷ rowComparedShort ∷ rowComparedGeometry ∷ rowComparedSecond ∷ []
 
 -- every call of the table gives back what its row says
 abbrev pub Worked : Type 0

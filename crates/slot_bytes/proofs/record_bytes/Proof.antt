@@ -19,6 +19,9 @@ put-slot-requires-4 c κs = search needs
 array-write-d : tie.Need-array-write-d
 array-write-d c = search needs
 
+array-write-d-2 : tie.Need-array-write-d-2
+array-write-d-2 c = search needs
+
 returns : tie.Need-returns
 returns c = joined (c .before .before .before .before .args .r) _ _ _ _ (c .before .before .before .put-slot .ensures) (c .before .before .put-slot2 .ensures) (c .before .put-slot3 .ensures) (c .put-slot4 .ensures)
 
@@ -31,4 +34,5 @@ record-bytes-spec =
     put-slot-requires-3
     put-slot-requires-4
     array-write-d
+    array-write-d-2
     returns)

@@ -19,6 +19,9 @@ slot-from-requires-4 c κs = search needs
 array-read-t11 : tie.Need-array-read-t11
 array-read-t11 c = search needs
 
+array-read-t14 : tie.Need-array-read-t14
+array-read-t14 c = search needs
+
 returns : tie.Need-returns
 returns c = by-slots (c .before .before .before .before .args .t1) (c .before .before .before .slot-from .ensures) (c .before .before .slot-from2 .ensures) (c .before .slot-from3 .ensures) (c .slot-from4 .ensures)
 
@@ -31,4 +34,5 @@ record-of-spec =
     slot-from-requires-3
     slot-from-requires-4
     array-read-t11
+    array-read-t14
     returns)

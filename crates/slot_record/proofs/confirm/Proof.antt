@@ -1,6 +1,6 @@
 -- `slot_record::confirm` meets its contract. Assumes nothing.
 use mathlib.Core.Path.{sym, _∙_}
-use Rattle.slot_rules.proofs.Laws.{confirm-invalid, confirms, confirm-refused}
+use Rattle.slot_rules.proofs.Laws.{current-ready, confirm-invalid, confirms, confirm-refused}
 use borrow.Author.Needs.{needs}
 use Rattle.slot_record.proofs.confirm.Statement.{statement}
 use Rattle.slot_record.proofs.confirm.Tie as tie
@@ -18,7 +18,7 @@ make-successful-requires : tie.Need-make-successful-requires
 make-successful-requires c κs = search needs
 
 replace-requires : tie.Need-replace-requires
-replace-requires c κs = search needs
+replace-requires c κs = current-ready (c .before .before .before .before .before .before .args .r) (c .before .before .before .before .before .is-valid .ensures) (c .before .before .before .before .if1 .taken) (c .before .before .before .slot-at .ensures)
 
 returns : tie.Need-returns
 returns c = confirms (c .before .before .before .before .before .before .before .args .r) (sym (c .before .before .before .before .before .before .is-valid .ensures) ∙ c .before .before .before .before .before .if1 .taken) (c .before .before .before .before .slot-at .ensures) (sym (c .before .before .before .can-confirm .ensures) ∙ c .before .before .if2 .taken) (c .before .make-successful .ensures) (c .replace .ensures)

@@ -5,7 +5,7 @@ use mathlib.Core.Logic.{⊎-elim}
 use Prim.Native.Nat.{ℕ}
 use Rattle.rules.specs.Answer.{refused}
 use Rattle.slot_rules.specs.Answers.{beside}
-use Rattle.slot_rules.proofs.Laws.{slot-at-end, on-slot-taken, on-slot-refused}
+use Rattle.slot_rules.proofs.Laws.{slot-ready, slot-at-end, on-slot-taken, on-slot-refused}
 use borrow.Author.Needs.{needs}
 use Rattle.slot_record.proofs.on_slot.Statement.{statement}
 use Rattle.slot_record.proofs.on_slot.Tie as tie
@@ -17,7 +17,7 @@ is-in-use-requires : tie.Need-is-in-use-requires
 is-in-use-requires c κs = search needs
 
 replace-requires : tie.Need-replace-requires
-replace-requires c κs = search needs
+replace-requires c κs = slot-ready (c .before .before .before .args .r) (c .before .before .is-valid .ensures) _ (c .before .is-in-use .ensures) (c .if1 .taken) (c .before .before .before .pre)
 
 returns : tie.Need-returns
 returns c = slot-at-end (c .before .before .before .before .args .r) _ (c .before .before .before .before .args .slot) (c .before .before .before .before .args .m) _ (c .replace .ensures) (on-slot-taken _ _ _ _ (c .before .before .before .is-valid .ensures) (c .before .before .is-in-use .ensures) (c .before .if1 .taken))

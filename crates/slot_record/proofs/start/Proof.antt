@@ -1,6 +1,6 @@
 -- `slot_record::start` meets its contract. Assumes nothing.
 use mathlib.Core.Path.{sym, _∙_}
-use Rattle.slot_rules.proofs.Laws.{start-invalid, own-starts, other-starts}
+use Rattle.slot_rules.proofs.Laws.{current-ready, start-invalid, own-starts, other-starts}
 use borrow.Author.Needs.{needs}
 use Rattle.slot_record.proofs.start.Statement.{statement}
 use Rattle.slot_record.proofs.start.Tie as tie
@@ -18,7 +18,7 @@ spend-requires : tie.Need-spend-requires
 spend-requires c κs = search needs
 
 replace-requires : tie.Need-replace-requires
-replace-requires c κs = search needs
+replace-requires c κs = current-ready (c .before .before .before .before .before .before .args .r) (c .before .before .before .before .before .is-valid .ensures) (c .before .before .before .before .if1 .taken) (c .before .before .before .slot-at .ensures)
 
 returns : tie.Need-returns
 returns c = own-starts (c .before .before .before .before .before .before .before .args .r) (sym (c .before .before .before .before .before .before .is-valid .ensures) ∙ c .before .before .before .before .before .if1 .taken) (c .before .before .before .before .slot-at .ensures) (sym (c .before .before .before .can-start .ensures) ∙ c .before .before .if2 .taken) (c .before .spend .ensures) (c .replace .ensures)
@@ -27,7 +27,7 @@ mark-requires : tie.Need-mark-requires
 mark-requires c κs = search needs
 
 replace-requires-2 : tie.Need-replace-requires-2
-replace-requires-2 c κs = search needs
+replace-requires-2 c κs = current-ready (c .before .before .before .before .before .before .args .r) (c .before .before .before .before .before .is-valid .ensures) (c .before .before .before .before .if1 .taken) (c .before .before .before .slot-at .ensures)
 
 first-other-requires : tie.Need-first-other-requires
 first-other-requires c κs = search needs

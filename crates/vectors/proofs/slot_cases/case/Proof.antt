@@ -8,7 +8,7 @@ abbrev Inv-loop : tie.InvT-loop
 Inv-loop rest head all i₀ i = Unit {0}
 
 abbrev μ-loop : tie.MeasureT-loop
-μ-loop rest head all i₀ i = 24 - i
+μ-loop rest head all i₀ i = 25 - i
 
 read16-requires : tie.Need-read16-requires Inv-loop μ-loop
 read16-requires c κs = search needs

@@ -8,7 +8,7 @@ abbrev Inv-loop : tie.InvT-loop
 Inv-loop state «record» now₀ n₀ now n = Unit {0}
 
 abbrev μ-loop : tie.MeasureT-loop
-μ-loop state «record» now₀ n₀ now n = 30 - n
+μ-loop state «record» now₀ n₀ now n = 35 - n
 
 loop-holds : tie.Need-loop-holds Inv-loop μ-loop
 loop-holds c = search needs
