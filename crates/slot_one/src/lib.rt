@@ -22,7 +22,8 @@ fn is_sound(s: Slot) -> bool
 pub fn count_of(s: Slot) -> u8
     ensures { λ n. ⌜ n ≡ countOf s ⌝ }
 {
-    if s.used & is_sound(s) { 1 } else { 0 }
+    let sound = is_sound(s);
+    if s.used & sound { 1 } else { 0 }
 }
 
 // Whether the slot starts where it is current.

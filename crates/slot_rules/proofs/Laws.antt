@@ -29,8 +29,12 @@ in-use-read r k e = ap (λ (s : Slot). ltb k 4 && s .used) e
 pub slot-past : (r : Record) → length (r .slots) ≡ 4 → (k : ℕ) → 4 ≤ k → newSlot false 0 ≡ slotAt r k
 slot-past r four k h = sym (List·getD-eq-default (r .slots) (newSlot false 0) (subst (λ (n : ℕ). n ≤ k) (sym four) h))
 
--- a valid record: its current slot is in use, its slots are valid, its count is that of its flags
+-- a valid record: its count is that of its flags, its current slot is in use, its slots are valid
 module _ (r : Record) (v : valid r ≡ true) where
+  pub valid-count : r .startable ≡ startableIn r
+  unfolding valid
+  valid-count = eqb-true (r .startable) (startableIn r) (and-right (inUse r (r .current) && slotsValid r) (eqb (r .startable) (startableIn r)) v)
+
   flags : (inUse r (r .current) && slotsValid r) ≡ true
   unfolding valid
   flags = and-left (inUse r (r .current) && slotsValid r) (eqb (r .startable) (startableIn r)) v
@@ -40,10 +44,6 @@ module _ (r : Record) (v : valid r ≡ true) where
 
   pub valid-slots : slotsValid r ≡ true
   valid-slots = and-right (inUse r (r .current)) (slotsValid r) flags
-
-  pub valid-count : r .startable ≡ startableIn r
-  unfolding valid
-  valid-count = eqb-true (r .startable) (startableIn r) (and-right (inUse r (r .current) && slotsValid r) (eqb (r .startable) (startableIn r)) v)
 
 -- what is asked where a slot is replaced, s being the slot that was read: by the test of the current one, and by the tests of any
 module _ (r : Record) {a : Bool} {s : Slot} (ea : a ≡ valid r) where

@@ -200,7 +200,7 @@ not-confirmed r v e = ap (λ (c : Change). c .answer) (confirm-unsound r v (corr
 
 -- a fresh record for 1 to 4 slots is valid
 pub fresh-valid : (n : ℕ) → 1 ≤ n → n ≤ 4 → (freshOf n .answer ≡ accepted done) × (valid (freshOf n .after) ≡ true)
-unfolding freshOf valid slotsValid startableIn
+unfolding freshOf valid slotsValid startableIn countOf
 fresh-valid zero h l = absurd (omega arith)
 fresh-valid (suc zero) h l = (refl, refl)
 fresh-valid (suc (suc zero)) h l = (refl, refl)

@@ -14,7 +14,7 @@ abbrev pub sound : Slot → Bool
 sound s = not (s .unbootable) && not (s .corrupted)
 
 -- what a slot adds to the count of "slots in use" that "are neither unbootable nor corrupted"
-abbrev pub countOf : Slot → ℕ
+unfoldable pub countOf : Slot → ℕ
 countOf s = cond (s .used && sound s) 1 0
 
 -- the count n after a slot that was s becomes t: "Every operation keeps it right"

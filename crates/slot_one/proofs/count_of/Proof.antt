@@ -9,10 +9,10 @@ is-sound-requires : tie.Need-is-sound-requires
 is-sound-requires c κs = search needs
 
 returns : tie.Need-returns
-returns c = counts (c .before .before .before .args .s) true (c .before .before .is-sound .ensures) (c .if1 .taken)
+returns c = counts _ true (c .before .before .is-sound .ensures) (c .if1 .taken)
 
 returns-2 : tie.Need-returns-2
-returns-2 c = counts (c .before .before .before .args .s) false (c .before .before .is-sound .ensures) (c .if1 .left)
+returns-2 c = counts _ false (c .before .before .is-sound .ensures) (c .if1 .left)
 
 pub count-of-spec : {M : Type 1} → statement M
 count-of-spec = tie.close (tie.spec is-sound-requires returns returns-2)

@@ -19,7 +19,7 @@ count-of-requires-2 : tie.Need-count-of-requires-2
 count-of-requires-2 c κs = search needs
 
 add-result : tie.Need-add-result
-add-result c = omega (arith, (count-most (c .before .before .before .slot-at .result) (c .before .before .count-of .ensures)), (count-most (c .before .slot-at2 .result) (c .count-of2 .ensures)))
+add-result c = omega (arith, (count-most _ (c .before .before .count-of .ensures)), (count-most _ (c .count-of2 .ensures)))
 
 slot-at-requires-3 : tie.Need-slot-at-requires-3
 slot-at-requires-3 c κs = search needs
@@ -28,7 +28,7 @@ count-of-requires-3 : tie.Need-count-of-requires-3
 count-of-requires-3 c κs = search needs
 
 add-result-2 : tie.Need-add-result-2
-add-result-2 c = omega (arith, (count-most (c .before .before .before .before .before .slot-at .result) (c .before .before .before .before .count-of .ensures)), (count-most (c .before .before .before .slot-at2 .result) (c .before .before .count-of2 .ensures)), (count-most (c .before .slot-at3 .result) (c .count-of3 .ensures)))
+add-result-2 c = omega (arith, (count-most _ (c .before .before .before .before .count-of .ensures)), (count-most _ (c .before .before .count-of2 .ensures)), (count-most _ (c .count-of3 .ensures)))
 
 slot-at-requires-4 : tie.Need-slot-at-requires-4
 slot-at-requires-4 c κs = search needs
@@ -37,7 +37,7 @@ count-of-requires-4 : tie.Need-count-of-requires-4
 count-of-requires-4 c κs = search needs
 
 add-result-3 : tie.Need-add-result-3
-add-result-3 c = omega (arith, (count-most (c .before .before .before .before .before .before .before .slot-at .result) (c .before .before .before .before .before .before .count-of .ensures)), (count-most (c .before .before .before .before .before .slot-at2 .result) (c .before .before .before .before .count-of2 .ensures)), (count-most (c .before .before .before .slot-at3 .result) (c .before .before .count-of3 .ensures)), (count-most (c .before .slot-at4 .result) (c .count-of4 .ensures)))
+add-result-3 c = omega (arith, (count-most _ (c .before .before .before .before .before .before .count-of .ensures)), (count-most _ (c .before .before .before .before .count-of2 .ensures)), (count-most _ (c .before .before .count-of3 .ensures)), (count-most _ (c .count-of4 .ensures)))
 
 returns : tie.Need-returns
 returns c = four-counts (c .before .before .before .before .before .before .before .before .args .r) (c .before .before .before .before .before .before .before .slot-at .ensures) (c .before .before .before .before .before .slot-at2 .ensures) (c .before .before .before .slot-at3 .ensures) (c .before .slot-at4 .ensures) (c .before .before .before .before .before .before .count-of .ensures) (c .before .before .before .before .count-of2 .ensures) (c .before .before .count-of3 .ensures) (c .count-of4 .ensures)

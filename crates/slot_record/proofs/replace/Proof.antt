@@ -18,7 +18,7 @@ count-of-requires : tie.Need-count-of-requires
 count-of-requires c κs = search needs
 
 add-n : tie.Need-add-n
-add-n c = omega (arith, count-few _ (c .before .before .pre .0), count-most (c .before .before .args .t) (c .before .count-of .ensures))
+add-n c = omega (arith, count-few _ (c .before .before .pre .0), count-most _ (c .before .count-of .ensures))
 
 count-of-requires-2 : tie.Need-count-of-requires-2
 count-of-requires-2 c κs = search needs
