@@ -77,11 +77,11 @@ opened r l = sym (entries-of (newSlot false 0) (r .slots) 4 l)
 same-slots : (r : Record) (a b c d : Slot) → a ≡ slotAt r 0 → b ≡ slotAt r 1 → c ≡ slotAt r 2 → d ≡ slotAt r 3 → length (r .slots) ≡ 4 → _≡_ {A = Record} (record { slots = a ∷ b ∷ c ∷ d ∷ []; current = r .current; startable = r .startable }) r
 same-slots r a b c d ea eb ec ed l = rw (ea, eb, ec, ed, ← opened r l)
 
-again : (r : Record) → length (r .slots) ≡ 4 → recordOf (recordBytes r) ≡ r
+pub again : (r : Record) → length (r .slots) ≡ 4 → recordOf (recordBytes r) ≡ r
 unfolding recordBytes recordOf
 again r l = same-slots r _ _ _ _ (slot-again (slotAt r 0)) (slot-again (slotAt r 1)) (slot-again (slotAt r 2)) (slot-again (slotAt r 3)) l
 
-right : (r : Record) → isRecord (recordBytes r) ≡ true
+pub right : (r : Record) → isRecord (recordBytes r) ≡ true
 unfolding recordBytes isRecord
 right r = rw (slot-right (slotAt r 0), slot-right (slotAt r 1), slot-right (slotAt r 2), slot-right (slotAt r 3))
 

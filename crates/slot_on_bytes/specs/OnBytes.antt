@@ -53,7 +53,7 @@ abbrev pub tallyOf : Answer ℕ → Tally
 tallyOf (accepted n) = record { number = 0; startable = n }
 tallyOf (refused n place) = record { number = n; startable = 0 }
 
--- "the lamp reads it": how many slots of the record in bytes are startable
+-- "the lamp reads it", the count's reader on bytes: how many slots of the record that they say are startable; 31 where they are no valid record
 unfoldable pub bytesStartable : List ℕ → Tally
 bytesStartable b = tallyOf (unless (first (bytesTests b)) 0 (startableOf (recordOf b)))
 

@@ -67,7 +67,8 @@ pub fn startable_slots(r: Record) -> Counted
     Counted::Refused(31)
 }
 
-// The record with n slots in use and so startable, a current, flags clear, and these tries in all four places.
+// The record for n slots, 0 to 4: the first n in use and so startable, a current, flags clear, and these
+// tries in all four places.
 pub fn new_record(n: u8, tries: u8) -> Record
     ensures { λ r. ⌜ r ≡ newRecord n tries ⌝ }
 {

@@ -7,7 +7,9 @@ use Rattle.rules.specs.Answer.{Answer, accepted, refused, numberOf}
 use Rattle.slot_rules.specs.declared.Record.{Record}
 use Rattle.slot_rules.specs.declared.Outcome.{Outcome}
 use Rattle.slot_rules.specs.declared.Outcome.the-variants.{Starts, Recovery, Done, Refused}
-use Rattle.slot_rules.specs.Answers.{Deed, starts, recovery, done, answerOf, change, refusedOr}
+use Rattle.slot_rules.specs.declared.Counted.{Counted}
+use Rattle.slot_rules.specs.declared.Counted.the-variants as counted
+use Rattle.slot_rules.specs.Answers.{Deed, starts, recovery, done, answerOf, countAnswerOf, change, refusedOr}
 
 -- the case that says an answer
 abbrev case : Answer Deed → Outcome
@@ -25,6 +27,18 @@ case-answer (Refused n) = refl
 -- two cases that say the same are the same
 pub answer-one : (a b : Outcome) → answerOf a ≡ answerOf b → a ≡ b
 answer-one a b e = sym (case-answer a) ∙ ap case e ∙ case-answer b
+
+-- and so of the count's answer
+abbrev count-case : Answer ℕ → Counted
+count-case (accepted n) = counted.Slots n
+count-case (refused n p) = counted.Refused n
+
+count-case-answer : (a : Counted) → count-case (countAnswerOf a) ≡ a
+count-case-answer (counted.Slots n) = refl
+count-case-answer (counted.Refused n) = refl
+
+pub count-answer-one : (a b : Counted) → countAnswerOf a ≡ countAnswerOf b → a ≡ b
+count-answer-one a b e = sym (count-case-answer a) ∙ ap count-case e ∙ count-case-answer b
 
 -- the slot that an answer starts, counted from 1, or 0
 abbrev started : Answer Deed → ℕ

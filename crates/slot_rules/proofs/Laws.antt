@@ -131,14 +131,7 @@ module _ (r : Record) (v : valid r ≡ true) where
   unfolding confirmOf
   confirm-done e = simp (v, e)
 
--- Start is refused exactly where the record is invalid, and so is the count's reader
-pub count-number : (r : Record) → numberOf (startableOf r) ≡ cond (not (valid r)) 31 0
-unfolding startableOf
-count-number r = go (valid r) where
-  go : (b : Bool) → numberOf (unless (cond (not b) 31 0) 0 (accepted (startableIn r))) ≡ cond (not b) 31 0
-  go true = refl
-  go false = refl
-
+-- Start is refused exactly where the record is invalid
 pub start-number : (r : Record) → numberOf (startOf r .answer) ≡ cond (not (valid r)) 31 0
 start-number r = go (valid r) refl where
   go : (b : Bool) → valid r ≡ b → numberOf (startOf r .answer) ≡ cond (not b) 31 0

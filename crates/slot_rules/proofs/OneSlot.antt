@@ -10,6 +10,11 @@ use Rattle.slot_rules.specs.declared.Slot.{Slot}
 use Rattle.slot_rules.specs.OneSlot.{slotValid, sound, countOf, mayStart, mayTakeOver, mayConfirm, withTries, spent, marked, damaged, confirmed}
 use Rattle.slot_rules.proofs.Tests.{and-left, and-right, and-false}
 
+-- what a slot counts, by its tests
+pub counts : (s : Slot) {b : Bool} (x : Bool) → b ≡ sound s → (s .used && b) ≡ x → cond x 1 0 ≡ countOf s
+unfolding countOf
+counts s x p e = ap (λ (t : Bool). cond t 1 0) (sym e ∙ ap (_&&_ (s .used)) p)
+
 -- a slot counts once at most
 pub count-most : (s : Slot) {n : ℕ} → n ≡ countOf s → n ≤ 1
 unfolding countOf
@@ -17,11 +22,6 @@ count-most s e = omega (arith, e, go (s .used && sound s)) where
   go : (b : Bool) → cond b 1 0 ≤ 1
   go true = omega arith
   go false = omega arith
-
--- what a slot counts, by its tests
-pub counts : (s : Slot) {b : Bool} (x : Bool) → b ≡ sound s → (s .used && b) ≡ x → cond x 1 0 ≡ countOf s
-unfolding countOf
-counts s x p e = ap (λ (t : Bool). cond t 1 0) (sym e ∙ ap (_&&_ (s .used)) p)
 
 -- what two tests that differ prove
 pub clash : {A : Type 0} {b : Bool} → b ≡ true → b ≡ false → A

@@ -5,6 +5,7 @@ use mathlib.Core.Bool.{Bool, true, false, not, cond, _&&_, _||_}
 use Prim.Native.Nat.{ℕ, zero, suc, _+_, _<_, _≤_}
 use native.Mathlib.Omega.{arith}
 use lib.Dec.{ltb, leb}
+use lib.ListN.{length, length-set}
 use borrow.Author.Tests.{eq-eqb, ne-eqb}
 use Rattle.rules.specs.First.{first}
 use Rattle.rules.specs.Answer.{Answer, accepted, refused, numberOf}
@@ -14,16 +15,16 @@ use Rattle.slot_rules.specs.declared.Op.{Op}
 use Rattle.slot_rules.specs.declared.Op.the-variants.{Start, SetActive, Modified, Corrupted, Confirm}
 use Rattle.slot_rules.specs.OneSlot.{slotValid, countOf, stepped, mayStart, marked, activated, modified, damaged}
 use Rattle.slot_rules.specs.Records.{slotAt, currentSlot, inUse, slotsValid, startableIn, valid, replaced, withCurrent, newRecord}
-use Rattle.slot_rules.specs.Answers.{Deed, starts, done, Change, beside, change, refusedOr}
+use Rattle.slot_rules.specs.Answers.{Deed, starts, recovery, done, Change, beside, change, refusedOr}
 use Rattle.slot_rules.specs.Operations.{freshTests, freshOf, startTests, firstOther, startOf, corruptedOf, confirmOf, startableOf}
 use Rattle.slot_rules.specs.Applied.{apply}
-use Rattle.slot_rules.specs.Promises.{about, startsSlot, isDone, renews, confirms, marks, givesWay, triesAfter, currentAfter, Lawful, Started, Damages, RefusalNumbers, PastD, Promises}
+use Rattle.slot_rules.specs.Promises.{about, startsSlot, isDone, renews, confirms, marks, givesWay, triesAfter, currentAfter, Lawful, Started, Damages, Counts, RefusalNumbers, PastD, Promises}
 use Rattle.rules.proofs.Answer.{unless-number, has-number}
 use Rattle.slot_rules.proofs.Tests.{and-false}
 use Rattle.slot_rules.proofs.OneSlot.{clash, by-cond, corrupted-unsound, corrupted-stuck, starts-bootable, starts-intact}
 use Rattle.slot_rules.proofs.Answers.{starts-none, not-refused, refusedOr-numbered}
-use Rattle.slot_rules.proofs.Laws.{valid-in-use, valid-slots, valid-count, miscounted, count-invalid, count-told, start-other, on-slot-done, confirm-unsound, past-alike, fresh-made, fresh-none, fresh-past}
-use Rattle.slot_rules.proofs.Places.{replaced-here, by-place, each-valid, all-valid, in-use-used, count-replaced, count-moves}
+use Rattle.slot_rules.proofs.Laws.{valid-in-use, valid-slots, valid-count, miscounted, count-invalid, count-told, start-own, start-other, on-slot-done, confirm-unsound, past-alike, fresh-made, fresh-none, fresh-past}
+use Rattle.slot_rules.proofs.Places.{replaced-here, by-place, each-valid, all-valid, in-use-used, counted-in, count-replaced, count-moves}
 use Rattle.slot_rules.proofs.Steps.{Made, Step, refusal, entry, step, invalid-answer}
 
 -- a refusal renews no slot
@@ -73,10 +74,14 @@ module _ (o : Op) (r : Record) where
   others _ (entry d i s k known) j h =
       by-place r i s (known .place-used) (λ (j : ℕ) (t : Slot). (j ≡ about o r → ⊥) → t ≡ slotAt r j) (λ h. absurd (h (known .at-place))) (λ j _ _. refl) j h
 
+  places : (c : Change) → Step o r c → length (c .after .slots) ≡ length (r .slots)
+  places _ (refusal _ _) = refl
+  places _ (entry d i s k known) = length-set (r .slots) i s
+
   -- the count that is kept steps as the count of the flags does
-  right : (c : Change) → Step o r c → valid r ≡ true → c .after .startable ≡ startableIn (c .after)
-  right _ (refusal _ _) v = valid-count r v
-  right _ (entry d i s k known) v = count-replaced r i (known .place-used) s (valid-count r v) k
+  right : (c : Change) → Step o r c → r .startable ≡ startableIn r → c .after .startable ≡ startableIn (c .after)
+  right _ (refusal _ _) e = e
+  right _ (entry d i s k known) e = count-replaced r i (known .place-used) s e k
 
   steps : (c : Change) → Step o r c → c .after .startable + countOf (slotAt r (about o r)) ≡ r .startable + countOf (slotAt (c .after) (about o r))
   steps _ (refusal _ _) = refl
@@ -87,7 +92,7 @@ module _ (o : Op) (r : Record) where
   stays : (c : Change) → Step o r c → valid r ≡ true → valid (c .after) ≡ true
   unfolding valid
   stays _ (refusal _ _) v = v
-  stays _ (entry d i s k known) v = simp (current, slots, eq-eqb _ _ (right _ (entry d i s k known) v)) where
+  stays _ (entry d i s k known) v = simp (current, slots, eq-eqb _ _ (right _ (entry d i s k known) (valid-count r v))) where
     slots : slotsValid (withCurrent (replaced r i s) k) ≡ true
     slots = all-valid (withCurrent (replaced r i s) k) (by-place r i s (known .place-used) (λ (j : ℕ) (t : Slot). j < 4 → slotValid t ≡ true) (λ _. known .made .still-valid) (λ j _. each-valid r (valid-slots r v) j))
 
@@ -135,6 +140,7 @@ lawful o r = record {
   count-steps = steps o r (apply o r) (step o r);
   unused-kept = unused o r (apply o r) (step o r);
   others-kept = others o r (apply o r) (step o r);
+  places-kept = places o r (apply o r) (step o r);
   use-kept = uses o r (apply o r) (step o r);
   current-goes = moves o r (apply o r) (step o r);
   unbootable-waits = sets o r (λ s. s .unbootable) (λ a i. marks o r i ≡ true) (λ d i s made. made .unbootable-set) (apply o r) (step o r);
@@ -208,9 +214,35 @@ fresh-valid (suc (suc (suc zero))) h l = (refl, refl)
 fresh-valid (suc (suc (suc (suc zero)))) h l = (refl, refl)
 fresh-valid (suc (suc (suc (suc (suc n))))) h l = absurd (omega arith)
 
--- a wrong count is refused by every operation and by the count's reader
-pub wrong-count : (o : Op) (r : Record) → (r .startable ≡ startableIn r → ⊥) → (apply o r ≡ beside (refused 31 0) r) × (startableOf r ≡ refused 31 0)
-wrong-count o r h = (invalid-answer r (miscounted r h) o, count-invalid r (miscounted r h))
+-- an invalid record is refused by every operation and by the count's reader
+pub invalid : (o : Op) (r : Record) → valid r ≡ false → (apply o r ≡ beside (refused 31 0) r) × (startableOf r ≡ refused 31 0)
+invalid o r v = (invalid-answer r v o, count-invalid r v)
+
+-- what is counted, by the flags
+pub counts : (s : Slot) → Counts s
+unfolding countOf
+counts s = record {
+  once = λ u b c. simp (u, b, c);
+  not-unused = λ u. simp u;
+  not-unbootable = λ b. simp (b, and-false (s .used));
+  not-corrupted = λ c. simp (corrupted-unsound s c, and-false (s .used));
+}
+
+-- a slot that starts is counted, so where none is, none starts
+module _ (r : Record) (v : valid r ≡ true) (z : r .startable ≡ 0) where
+  no-start : {A : Type 0} (k : ℕ) → startOf r .answer ≡ accepted (starts k) → A
+  no-start k e =
+      let s : Started r k = started r k e in
+      absurd (omega (arith, z, valid-count r v, counted-in r k (s .in-use), counts (slotAt r k) .once (in-use-used r k (s .in-use)) (s .bootable) (s .intact)))
+
+  pub none-starts : startOf r .answer ≡ accepted recovery
+  none-starts = by (mayStart (currentSlot r)) refl where
+    by : (b : Bool) → mayStart (currentSlot r) ≡ b → startOf r .answer ≡ accepted recovery
+    by true e = no-start (r .current) (ap (λ (c : Change). c .answer) (start-own r v e))
+    by false e = over (ltb (firstOther r) 4) refl where
+      over : (b : Bool) → ltb (firstOther r) 4 ≡ b → startOf r .answer ≡ accepted recovery
+      over true l = no-start (firstOther r) (ap (λ (c : Change). c .answer) (start-other r v e) ∙ simp l)
+      over false l = ap (λ (c : Change). c .answer) (start-other r v e) ∙ simp l
 
 -- the count of a fresh record, and beside its refusal
 pub fresh-count : (n : ℕ) → freshOf n .after .startable ≡ cond (leb 1 n && leb n 4) n 0
@@ -256,4 +288,4 @@ past-d = record {
 }
 
 pub promises : Promises
-promises = record { lawful = lawful; started = started; gives-way = gives-way; damages = damages; not-confirmed = not-confirmed; fresh-valid = fresh-valid; fresh-clear = fresh-clear; wrong-count = wrong-count; count-read = count-told; fresh-count = fresh-count; refusal-numbers = refusal-numbers; past-d = past-d }
+promises = record { lawful = lawful; started = started; gives-way = gives-way; damages = damages; not-confirmed = not-confirmed; fresh-valid = fresh-valid; fresh-clear = fresh-clear; invalid = invalid; wrong-count = miscounted; counts = counts; none-starts = none-starts; count-read = count-told; fresh-count = fresh-count; refusal-numbers = refusal-numbers; past-d = past-d }

@@ -13,7 +13,7 @@ slotValid s = not (s .used) || (leb (s .tries) 7 && not (s .unbootable && s .suc
 abbrev pub sound : Slot → Bool
 sound s = not (s .unbootable) && not (s .corrupted)
 
--- what a slot adds to the count of "slots in use" that "are neither unbootable nor corrupted"
+-- what a slot adds to the count of startable ones, the "slots in use" that "are neither unbootable nor corrupted": 1 or 0
 unfoldable pub countOf : Slot → ℕ
 countOf s = cond (s .used && sound s) 1 0
 

@@ -80,6 +80,6 @@ confirmTests r = (not (valid r), 31) ∷ (not (mayConfirm (currentSlot r)), 33) 
 unfoldable pub confirmOf : Record → Change
 confirmOf r = refusedOr (first (confirmTests r)) r (change done (replaced r (r .current) (confirmed (currentSlot r))))
 
--- "the lamp reads it": how many slots of a valid record are startable, by its flags; an invalid one gives 31, as Start does
+-- "the lamp reads it", the count's reader: how many slots of a valid record are startable, by its flags; an invalid one gives 31, as Start does
 unfoldable pub startableOf : Record → Answer ℕ
 startableOf r = unless (first (startTests r)) 0 (accepted (startableIn r))

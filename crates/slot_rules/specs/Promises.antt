@@ -4,6 +4,7 @@ use mathlib.Core.Path.{_≡_}
 use mathlib.Core.Bool.{Bool, true, false, not, cond, _&&_, _||_}
 use Prim.Native.Nat.{ℕ, _+_, _-_, _<_, _≤_}
 use lib.Dec.{leb, eqb}
+use lib.ListN.{length}
 use Rattle.rules.specs.Answer.{Answer, accepted, refused, HasNumber}
 use Rattle.slot_rules.specs.declared.Slot.{Slot}
 use Rattle.slot_rules.specs.declared.Record.{Record}
@@ -98,14 +99,16 @@ pub record Lawful (o : Op) (r : Record) : Type 0 where
   pub refusal-keeps : (n p : ℕ) → apply o r .answer ≡ refused n p → after o r ≡ r
   -- every operation keeps a valid record valid
   pub stays-valid : valid r ≡ true → valid (after o r) ≡ true
-  -- "Every operation keeps it right": the count that is kept is that of the flags
-  pub count-right : valid r ≡ true → after o r .startable ≡ startableIn (after o r)
+  -- "Every operation keeps it right": a count that is that of the flags stays so, in an invalid record too
+  pub count-right : r .startable ≡ startableIn r → after o r .startable ≡ startableIn (after o r)
   -- the count changes by what the slot that the operation is about was and what it is
   pub count-steps : after o r .startable + countOf (slotAt r (about o r)) ≡ r .startable + countOf (slotAt (after o r) (about o r))
   -- "unused places are ignored and kept"
   pub unused-kept : (i : ℕ) → slotAt r i .used ≡ false → slotAt (after o r) i ≡ slotAt r i
   -- no slot changes but the one that the operation is about: a corrupted slot that is not current outlasts Start as it is
   pub others-kept : (i : ℕ) → (i ≡ about o r → ⊥) → slotAt (after o r) i ≡ slotAt r i
+  -- as many places as before
+  pub places-kept : length (after o r .slots) ≡ length (r .slots)
   -- no operation takes a slot into use, or out of it
   pub use-kept : (i : ℕ) → slotAt (after o r) i .used ≡ slotAt r i .used
   -- "The slot becomes current": what Start starts and what is set active; nothing else changes which slot is current
@@ -145,6 +148,13 @@ pub record Damages (r : Record) (k : ℕ) : Type 0 where
   pub same-successful : slotAt (corruptedOf r k .after) k .successful ≡ slotAt r k .successful
   pub same-current : corruptedOf r k .after .current ≡ r .current
 
+-- what is counted: a slot "in use" and "neither unbootable nor corrupted" once, and no other
+pub record Counts (s : Slot) : Type 0 where
+  pub once : s .used ≡ true → s .unbootable ≡ false → s .corrupted ≡ false → countOf s ≡ 1
+  pub not-unused : s .used ≡ false → countOf s ≡ 0
+  pub not-unbootable : s .unbootable ≡ true → countOf s ≡ 0
+  pub not-corrupted : s .corrupted ≡ true → countOf s ≡ 0
+
 -- no refusal has the number 0, which stands for none
 pub record RefusalNumbers : Type 0 where
   pub operation : (o : Op) (r : Record) → HasNumber (apply o r .answer)
@@ -158,7 +168,7 @@ pub record PastD : Type 0 where
   pub corrupted : (r : Record) (k : ℕ) → 4 ≤ k → corruptedOf r k ≡ corruptedOf r 4
   pub fresh : (n : ℕ) → 4 < n → freshOf n ≡ freshOf 5
 
--- every operation is lawful; what Start starts is in use and was neither unbootable nor corrupted; a corrupted slot gives way and is not confirmed; a fresh record for 1 to 4 slots is valid, and the flags of every fresh record are clear; the count is refused where it differs from the flags, and read where it does not
+-- every operation is lawful; what Start starts is in use and was neither unbootable nor corrupted; a corrupted slot gives way and is not confirmed; a fresh record for 1 to 4 slots is valid, and the flags of every fresh record are clear; an invalid record is refused, and one whose count differs from its flags is invalid; what is counted, what is read, and that a count of 0 starts nothing
 pub record Promises : Type 0 where
   pub lawful : (o : Op) (r : Record) → Lawful o r
   pub started : (r : Record) (k : ℕ) → startOf r .answer ≡ accepted (starts k) → Started r k
@@ -171,9 +181,14 @@ pub record Promises : Type 0 where
   pub fresh-valid : (n : ℕ) → 1 ≤ n → n ≤ 4 → (freshOf n .answer ≡ accepted done) × (valid (freshOf n .after) ≡ true)
   -- "in all four places flags clear", corrupted among them, and so beside the refusal
   pub fresh-clear : (n i : ℕ) → (slotAt (freshOf n .after) i .unbootable ≡ false) × (slotAt (freshOf n .after) i .successful ≡ false) × (slotAt (freshOf n .after) i .corrupted ≡ false)
-  -- "A record whose count differs from its flags is invalid (31)": every operation hands it back, and the count's reader refuses it
-  pub wrong-count : (o : Op) (r : Record) → (r .startable ≡ startableIn r → ⊥) → (apply o r ≡ beside (refused 31 0) r) × (startableOf r ≡ refused 31 0)
-  -- "the lamp reads it": what is answered is the count that a valid record keeps
+  -- 31: every operation hands an invalid record back as it was, and the count's reader refuses it
+  pub invalid : (o : Op) (r : Record) → valid r ≡ false → (apply o r ≡ beside (refused 31 0) r) × (startableOf r ≡ refused 31 0)
+  -- "A record whose count differs from its flags is invalid"
+  pub wrong-count : (r : Record) → (r .startable ≡ startableIn r → ⊥) → valid r ≡ false
+  pub counts : (s : Slot) → Counts s
+  -- a valid record whose count is 0 starts no slot
+  pub none-starts : (r : Record) → valid r ≡ true → r .startable ≡ 0 → startOf r .answer ≡ accepted recovery
+  -- "the lamp reads it": what the count's reader answers is the count that a valid record keeps
   pub count-read : (r : Record) → valid r ≡ true → startableOf r ≡ accepted (r .startable)
   -- a fresh record's count is the number of its slots, and 0 beside the refusal
   pub fresh-count : (n : ℕ) → freshOf n .after .startable ≡ cond (leb 1 n && leb n 4) n 0

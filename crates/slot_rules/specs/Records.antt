@@ -41,6 +41,6 @@ replaced r i s = record { slots = set (r .slots) i s; current = r .current; star
 abbrev pub withCurrent : Record → ℕ → Record
 withCurrent r k = record { slots = r .slots; current = k; startable = r .startable }
 
--- the first n slots in use and so startable, current a, "in all four places flags clear" and the same tries
+-- for n up to 4: the first n slots in use and so startable, current a, "in all four places flags clear" and the same tries
 abbrev pub newRecord : ℕ → ℕ → Record
 newRecord n t = record { slots = newSlot (ltb 0 n) t ∷ newSlot (ltb 1 n) t ∷ newSlot (ltb 2 n) t ∷ newSlot (ltb 3 n) t ∷ []; current = 0; startable = n }

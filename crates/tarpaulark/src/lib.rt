@@ -314,7 +314,7 @@ pub extern "C" fn tarpaulark_slots_valid(bytes: &[u8; RECORD]) -> u32
     slot_on_bytes::bytes_refusal(*bytes)
 }
 
-// How many slots of a record are startable, as the record keeps it; the refusal 31 answers 0.
+// How many slots of a record are startable, as the record keeps it, or 0 beside the refusal 31.
 #[no_mangle]
 pub extern "C" fn tarpaulark_slots_startable(bytes: &[u8; RECORD], out: &mut [u64; 1]) -> u32
     ensures { λ r. ⌜ (r ≡ bytesStartable (now (bytes .entry)) .number)

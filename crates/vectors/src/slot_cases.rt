@@ -21,7 +21,7 @@ fn gathered(number: u32, kind: &[u64; 2], record: &[u8; RECORD]) -> [u8; VALUES]
     all
 }
 
-// The lamp's number; its count goes into the place of the started slot.
+// The refusal's number of the count's reader; the count goes into the place of the started slot.
 fn startable(record: &[u8; RECORD], kind: &mut [u64; 2]) -> u32 {
     let mut count = [0u64; 1];
     let number = tarpaulark::tarpaulark_slots_startable(record, &mut count);

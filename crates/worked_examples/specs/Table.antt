@@ -127,7 +127,7 @@ rowCounted = record { call = tells (two 0 1 (slot true false 3) (slot false fals
 abbrev pub rowMiscounted : Row
 rowMiscounted = record { call = tells (two 0 2 (slot true false 3) (slot false false 0)); result = told (refused 31 0) }
 
--- and Start hands it back as it was
+-- request 6: and Start hands such a record back as it was
 abbrev pub rowMiscountedStart : Row
 rowMiscountedStart =
     record {
