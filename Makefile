@@ -1,7 +1,7 @@
 # make: the host tool, over the proved library. make demo: an update with power cuts, shown.
 # make test: the tool and the library against examples and the reference.
 # make install: tool, library, header, man page and pkg-config file, below PREFIX (and DESTDIR).
-# make peers: the same images through Debian's tools. make bench: speed, as ratios: whole, in pieces, compared.
+# make peers: the same images through Debian's tools. make bench: speed, as ratios: whole, in pieces, compared, joined.
 ifeq ($(origin CC),default)
 CC = gcc
 endif

@@ -1,12 +1,13 @@
 /*
  * bench MIB FOLDER: times judge, store and write on data of MIB MiB against memcpy,
  * zlib's crc32 (with -DWITH_ZLIB), simg2img and img2simg, and prints a table of ratios;
- * then a table of the passes against judge and store, and one of comparing two images
- * against memcmp. Images are judged and stored with a checksum stated and with none. The
- * tools run on files in FOLDER.
+ * then a table of the passes against judge and store, one of comparing two images
+ * against memcmp, and one of joining two. Images are judged and stored with a checksum
+ * stated and with none. The tools run on files in FOLDER.
  */
 #define _GNU_SOURCE
 #include "compare.h"
+#include "join.h"
 #include "passes.h"
 #include "work.h"
 
@@ -17,35 +18,8 @@
 #include <sys/resource.h>
 #include <sys/wait.h>
 #include <unistd.h>
-#ifdef WITH_ZLIB
-#include <zlib.h>
-#endif
 
 extern char **environ;
-
-static double copy(struct work *work)
-{
-    static void *(*volatile plain)(void *, const void *, size_t) = memcpy;
-    double start = now();
-
-    plain(work->partition, work->flat, work->flat_len);
-    return now() - start;
-}
-
-static double checksum(struct work *work)
-{
-#ifdef WITH_ZLIB
-    static volatile uLong sum;
-    double start = now();
-
-    sum = crc32_z(0, work->flat, work->flat_len);
-    (void)sum;
-    return now() - start;
-#else
-    (void)work;
-    return ABSENT;
-#endif
-}
 
 static double seconds_of(struct timeval time)
 {
@@ -164,6 +138,7 @@ int main(int count, char **words)
     work.partition = touched(mib << 20);
     work.image = touched(work.image_room);
     work.other = touched(work.image_room);
+    work.joined = touched(work.image_room);
     work.runs = touched((mib << 20) / 256 * TARPAULARK_RUN * sizeof *work.runs);
     printf("%-17s  %-5s  %-8s %9s %9s %9s %9s %9s %9s\n", "data", "job", "checksum", "seconds", "GB/s", "/ memcpy",
            "/ crc32", "/ tool", "growth");
@@ -177,5 +152,7 @@ int main(int count, char **words)
     put_passes(&work, mib);
     putchar('\n');
     put_comparisons(&work, mib);
+    putchar('\n');
+    put_joinings(&work, mib);
     return 0;
 }

@@ -105,15 +105,6 @@ static double plain_compare(struct work *work)
     return seconds;
 }
 
-/* Makes an image of one fill chunk that states no checksum; its length. */
-static size_t put_fill(uint8_t *image, uint32_t block, uint32_t blocks, uint32_t word)
-{
-    const uint32_t fields[] = {0xED26FF3A, 1, 12 << 16 | 28, block, blocks, 1, 0, 0xCAC2, blocks, 16, word};
-
-    memcpy(image, fields, sizeof fields);
-    return sizeof fields;
-}
-
 static void make_filled(struct work *work)
 {
     memset(work->flat, FILL_BYTE, work->flat_len);

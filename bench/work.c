@@ -4,6 +4,9 @@
 #include <stdlib.h>
 #include <string.h>
 #include <time.h>
+#ifdef WITH_ZLIB
+#include <zlib.h>
+#endif
 
 #define RUNS 3
 
@@ -63,6 +66,38 @@ double store(struct work *work)
     expect(tarpaulark_store(work->image, work->image_len, work->partition, work->flat_len, answer) == 0,
            "store refused");
     return now() - start;
+}
+
+double copy(struct work *work)
+{
+    static void *(*volatile plain)(void *, const void *, size_t) = memcpy;
+    double start = now();
+
+    plain(work->partition, work->flat, work->flat_len);
+    return now() - start;
+}
+
+double checksum(struct work *work)
+{
+#ifdef WITH_ZLIB
+    static volatile uLong sum;
+    double start = now();
+
+    sum = crc32_z(0, work->flat, work->flat_len);
+    (void)sum;
+    return now() - start;
+#else
+    (void)work;
+    return ABSENT;
+#endif
+}
+
+size_t put_fill(uint8_t *image, uint32_t block, uint32_t blocks, uint32_t word)
+{
+    const uint32_t fields[] = {0xED26FF3A, 1, 12 << 16 | 28, block, blocks, 1, 0, 0xCAC2, blocks, 16, word};
+
+    memcpy(image, fields, sizeof fields);
+    return sizeof fields;
 }
 
 static double write_image(struct work *work)

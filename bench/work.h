@@ -9,10 +9,12 @@
 #define ABSENT (-1.0)
 
 struct work {
-    uint8_t *flat, *image, *partition, *other; /* other: what the image is compared with */
+    uint8_t *flat, *image, *partition;
+    uint8_t *other; /* what the image is compared or joined with */
+    uint8_t *joined;
     uint32_t *runs;
-    size_t flat_len, image_len, image_room, piece, other_len, runs_len;
-    size_t calls; /* comparisons that are timed as one */
+    size_t flat_len, image_len, image_room, piece, other_len, runs_len, joined_len;
+    size_t calls; /* comparisons or joinings that are timed as one */
     uint32_t block;
     uint32_t apart; /* one block of each so many is different in the other image; 0: none */
     int unstated; /* the image states no checksum */
@@ -50,6 +52,13 @@ void expect_stored(const struct work *work);
 
 double judge(struct work *work);
 double store(struct work *work);
+
+/* The yardsticks, over all the flat bytes: memcpy, and zlib's crc32 where it is to be had. */
+double copy(struct work *work);
+double checksum(struct work *work);
+
+/* Makes an image of one fill chunk that states no checksum; its length. */
+size_t put_fill(uint8_t *image, uint32_t block, uint32_t blocks, uint32_t word);
 
 /* The columns that name the image and the job. */
 void put_names(const struct data *data, const char *job, const struct work *work);

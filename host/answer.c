@@ -293,7 +293,7 @@ void advise(const char *name, const char *words)
     fprintf(stderr, "%s\n", words);
 }
 
-enum status refuse(uint32_t number, uint64_t place)
+enum status refuse_because(uint32_t number, uint64_t place, const char *meaning)
 {
     if (answer.json) {
         say_number("number", number);
@@ -301,8 +301,13 @@ enum status refuse(uint32_t number, uint64_t place)
     } else {
         fprintf(stderr, "refused %" PRIu32 " at %" PRIu64 "\n", number, place);
     }
-    advise("meaning", refusal_meaning(number));
+    advise("meaning", meaning);
     return REFUSED;
+}
+
+enum status refuse(uint32_t number, uint64_t place)
+{
+    return refuse_because(number, place, refusal_meaning(number));
 }
 
 /* A name may hold anything; what is no text, or would steer the terminal, shows as a question mark. */

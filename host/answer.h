@@ -56,8 +56,9 @@ enum status finish(enum status status);
 /* Ends what is no answer, as the help; the status to leave with. */
 enum status finish_text(void);
 
-/* Says a refusal, its place and what it means. */
+/* Says a refusal, its place and what it means, or what it means here. */
 enum status refuse(uint32_t number, uint64_t place);
+enum status refuse_because(uint32_t number, uint64_t place, const char *meaning);
 
 /* Says after a refusal in which of two images it is. */
 void name_image(const char *which, const char *path);

@@ -5,7 +5,11 @@
 #include <inttypes.h>
 #include <stdio.h>
 
+/* Room for what is remarked. */
+enum { REMARK = 256 };
+
 static const char changed[] = "changed while it was read; run the same command again";
+static const char unchecked[] = "no checksum is stated: the data were not checked";
 
 /* Begins to walk an image that was accepted for a partition of so many bytes. */
 static void start_walk(struct walk *walk, const struct mapped *image, uint64_t room)
@@ -94,25 +98,48 @@ static const char *plural(uint64_t number)
     return number == 1 ? "" : "s";
 }
 
-static void say_unknown(const struct remarks *remarks)
+static bool has_unknown(const struct remarks *remarks)
 {
-    char kept[64] = "no blocks", text[256];
+    return remarks->chunks != 0 || remarks->blocks != 0;
+}
+
+/* Puts in words what chunks of unknown type there are. */
+static void word_unknown(const struct remarks *remarks, char text[REMARK])
+{
+    char kept[64] = "no blocks";
 
     if (remarks->blocks != 0)
         snprintf(kept, sizeof kept, "%" PRIu64 " block%s kept as %s", remarks->blocks, plural(remarks->blocks),
                  remarks->blocks == 1 ? "it was" : "they were");
     if (remarks->chunks == 0)
-        snprintf(text, sizeof text, "chunks of unknown type: %s", kept);
+        snprintf(text, REMARK, "chunks of unknown type: %s", kept);
     else
-        snprintf(text, sizeof text, "%" PRIu64 " chunk%s of unknown type: %s; the first is 0x%04X at offset %" PRIu64,
+        snprintf(text, REMARK, "%" PRIu64 " chunk%s of unknown type: %s; the first is 0x%04X at offset %" PRIu64,
                  remarks->chunks, plural(remarks->chunks), kept, remarks->type, remarks->at);
-    advise("foreign", text);
 }
 
 void say_remarks(const struct remarks *remarks)
 {
+    char text[REMARK];
+
     if (remarks->checksum == 0)
-        advise("unchecked", "no checksum is stated: the data were not checked");
-    if (remarks->chunks != 0 || remarks->blocks != 0)
-        say_unknown(remarks);
+        advise("unchecked", unchecked);
+    if (!has_unknown(remarks))
+        return;
+    word_unknown(remarks, text);
+    advise("foreign", text);
+}
+
+void say_remarks_of(const char *side, const struct remarks *remarks)
+{
+    bool is_unchecked = remarks->checksum == 0, is_foreign = has_unknown(remarks);
+    char text[REMARK] = "", line[3 * REMARK];
+
+    if (!is_unchecked && !is_foreign)
+        return;
+    if (is_foreign)
+        word_unknown(remarks, text);
+    snprintf(line, sizeof line, "%s image: %s%s%s", side, is_unchecked ? unchecked : "",
+             is_unchecked && is_foreign ? "; " : "", text);
+    advise(side, line);
 }

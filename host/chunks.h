@@ -59,4 +59,7 @@ void say_counts(const uint64_t answer[TARPAULARK_JUDGE_ANSWER]);
    of unknown type, where there are. */
 void say_remarks(const struct remarks *remarks);
 
+/* Says the same of one of two images, in one line. */
+void say_remarks_of(const char *side, const struct remarks *remarks);
+
 #endif

@@ -26,6 +26,7 @@ enum status write_image(const struct request *request);
 enum status list(const struct request *request);
 enum status map(const struct request *request);
 enum status diff(const struct request *request);
+enum status join(const struct request *request);
 enum status sections(const struct request *request);
 enum status slots(const struct request *request);
 

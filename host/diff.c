@@ -1,7 +1,7 @@
 /* What changed between two sparse images. */
-#include "chunks.h"
 #include "commands.h"
 #include "picture.h"
+#include "refusals.h"
 #include "runs.h"
 
 #include <inttypes.h>
@@ -11,8 +11,6 @@
 
 /* Cells in a line of each of the two images. */
 enum { SIDE = COLUMNS / 2 };
-
-static const char *const sides[] = {"first", "second"};
 
 /* Painted so that the kinds tell apart without colour. */
 static const struct kind kinds[CHANGES] = {
@@ -135,76 +133,38 @@ static void say_changes(const struct picture *picture, const struct runs *runs, 
     say_totals(picture);
 }
 
-/* Says block size and total blocks of both images. */
-static void advise_geometry(const struct geometry both[2])
-{
-    char text[192];
-
-    snprintf(text, sizeof text, "first image: block %" PRIu64 " total %" PRIu64 "; second image: block %" PRIu64
-             " total %" PRIu64, both[0].block, both[0].total, both[1].block, both[1].total);
-    advise("geometry", text);
-}
-
-static enum status refuse_images(
-    const struct mapped images[2], const struct geometry both[2], uint32_t number, const uint64_t *answer)
-{
-    enum status status = refuse(number, answer[TARPAULARK_PLACE]);
-    uint64_t image = answer[TARPAULARK_IMAGE];
-
-    if (image != 0)
-        name_image(sides[image - 1], images[image - 1].path);
-    if (number == TARPAULARK_BAD_GEOMETRY)
-        advise_geometry(both);
-    return status;
-}
-
 /* Draws the runs, puts the picture where it is to stand, if anywhere, and says the answer. */
 static enum status show(
-    const struct request *request, const struct mapped images[2], const struct runs *runs, struct geometry geometry,
-    const struct place *place)
+    const struct request *request, const struct pair *pair, const struct runs *runs, const struct place *place)
 {
     static struct picture picture;
     char title[2 * NAME_MAX + 8];
     int error;
 
-    draw(&picture, runs, geometry);
-    snprintf(title, sizeof title, "%s and %s", last_part(images[0].path), last_part(images[1].path));
+    draw(&picture, runs, pair->both[0]);
+    snprintf(title, sizeof title, "%s and %s", last_part(pair->images[0].path), last_part(pair->images[1].path));
     error = save_svg(&picture, place, title);
     say_changes(&picture, runs, request->map);
     return stands(place, error);
 }
 
-/* Opens both images and the place of the SVG file, which must be apart from them. */
-static void open_all(const struct request *request, struct mapped images[2], struct place *place)
-{
-    for (size_t i = 0; i < 2; i++)
-        images[i] = open_file(request->words[i], READ_IMAGE);
-    *place = svg_place(request->svg);
-    for (size_t i = 0; i < 2; i++)
-        if (place->held >= 0 && is_same(&images[i].before, &place->old))
-            misused(NULL, "an image and the SVG file are one file: name another");
-}
-
 enum status diff(const struct request *request)
 {
     uint64_t answer[TARPAULARK_COMPARE_ANSWER];
-    struct geometry both[2];
-    struct mapped images[2];
     struct place place;
+    struct pair pair;
     struct runs runs;
     enum status status;
     uint32_t number;
 
-    open_all(request, images, &place);
-    for (size_t i = 0; i < 2; i++) {
-        hold_file(images + i);
-        both[i] = geometry_of(images + i);
-    }
-    number = find_runs(&runs, images, both[0].total, answer);
-    for (size_t i = 0; i < 2; i++)
-        expect_read(images + i);
-    status = number != 0 ? refuse_images(images, both, number, answer)
-                         : show(request, images, &runs, both[0], &place);
+    open_pair(&pair, request->words);
+    place = svg_place(request->svg);
+    expect_neither(&pair, &place, "an image and the SVG file are one file: name another");
+    hold_pair(&pair);
+    number = find_runs(&runs, &pair, answer);
+    expect_pair_read(&pair);
+    status = number != 0 ? refuse_pair(&pair, number, refusal_meaning(number), answer)
+                         : show(request, &pair, &runs, &place);
     free(runs.numbers);
     return status;
 }

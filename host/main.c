@@ -38,6 +38,10 @@ static const struct command {
      "          the runs of blocks that neither writes, only the first (A), only the second (B),\n"
      "          or both, equal or different; then blocks and bytes of each kind; with --map it\n"
      "          draws both images side by side in place of the runs"},
+    {"join", 3, 3, 0, join, "join A B OUT",
+     "makes one sparse image of two of equal block size and total blocks: storing it leaves\n"
+     "          what storing the first (A) and then the second (B) leaves; blocks that neither\n"
+     "          writes are kept; it is compact, and states its checksum"},
     {"write", 3, 3, 0, write_image, "write FLAT BLOCK-SIZE OUT", "makes a sparse image from flat bytes"},
     {"sections", 1, 1, 0, sections, "sections BOOT-IMAGE",
      "prints the version of a boot image, then name, position and size of each\n"
@@ -72,11 +76,12 @@ static const char options_help[] =
     "\n"
     "Of an accepted image's blocks, `written` are those of raw and fill chunks, `skipped` those\n"
     "of don't care chunks alone, `unknown` those of chunks of any other type, which are kept as\n"
-    "the skipped ones are. Where there are such chunks, judge, store and list say on standard\n"
-    "error how many, and type and offset of the first; of - only how many blocks they have.\n"
+    "the skipped ones are. Where there are such chunks, judge, store, list and join say on\n"
+    "standard error how many, and type and offset of the first; of - only how many blocks they\n"
+    "have.\n"
     "\n"
     "A header checksum of 0 states none: such an image is accepted without its data being\n"
-    "checked, which judge, store and list say on standard error.\n"
+    "checked, which judge, store, list and join say on standard error.\n"
     "\n"
     "A slot record of 21 bytes, as tarpaulark 0.5.0 and 0.6.0 made it, lacks the count of\n"
     "startable slots; one of 17 bytes, as 0.4.0 and before made it, the flag corrupted too. They\n"

@@ -9,14 +9,6 @@
 /* The space has room for so many runs at first, and then for so many times as many, up to a run for each block. */
 enum { FEW_RUNS = 65536, MORE = 4, RUN_BYTES = TARPAULARK_RUN * sizeof(uint32_t) };
 
-struct geometry geometry_of(const struct mapped *image)
-{
-    uint64_t header[TARPAULARK_HEADER_ANSWER];
-
-    tarpaulark_header(image->at, image->length, UINT64_MAX, header);
-    return (struct geometry){header[TARPAULARK_HEADER_BLOCK], header[TARPAULARK_HEADER_TOTAL]};
-}
-
 static uint64_t lesser(uint64_t one, uint64_t other)
 {
     return one < other ? one : other;
@@ -36,10 +28,10 @@ static void make_room(struct runs *runs, uint64_t room, const struct mapped *ima
     failed(image->path, text, 0);
 }
 
-uint32_t find_runs(
-    struct runs *runs, const struct mapped images[2], uint64_t total, uint64_t answer[TARPAULARK_COMPARE_ANSWER])
+uint32_t find_runs(struct runs *runs, const struct pair *pair, uint64_t answer[TARPAULARK_COMPARE_ANSWER])
 {
-    uint64_t room = lesser(total, FEW_RUNS);
+    const struct mapped *images = pair->images;
+    uint64_t total = pair->both[0].total, room = lesser(total, FEW_RUNS);
     uint32_t number;
 
     *runs = (struct runs){NULL, 0};

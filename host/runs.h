@@ -2,7 +2,7 @@
 #ifndef RUNS_H
 #define RUNS_H
 
-#include "files.h"
+#include "pair.h"
 #include "tarpaulark.h"
 
 #include <stddef.h>
@@ -23,17 +23,9 @@ struct runs {
     uint64_t count;
 };
 
-/* Block size and total blocks of an image; zeros where its file header is refused. */
-struct geometry {
-    uint64_t block, total;
-};
-
-struct geometry geometry_of(const struct mapped *image);
-
-/* Lists the runs of two images, the first of so many blocks, in space that grows until it is enough and is to be
-   freed; 0 or the refusal. */
-uint32_t find_runs(
-    struct runs *runs, const struct mapped images[2], uint64_t total, uint64_t answer[TARPAULARK_COMPARE_ANSWER]);
+/* Lists the runs of two images that are held, in space that grows until it is enough and is to be freed; 0 or the
+   refusal. */
+uint32_t find_runs(struct runs *runs, const struct pair *pair, uint64_t answer[TARPAULARK_COMPARE_ANSWER]);
 
 /* The run with a number from 0 on, one of those that were listed. */
 struct run run_at(const struct runs *runs, uint64_t number);

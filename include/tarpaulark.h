@@ -1,13 +1,13 @@
 /*
  * Tarpaulark: judges and stores Android sparse images, whole or as they arrive in
- * pieces, compares two of them, writes them from flat bytes, finds the sections of
- * a boot image, and keeps the slot record.
+ * pieces, compares two of them, joins two into one, writes them from flat bytes,
+ * finds the sections of a boot image, and keeps the slot record.
  *
  * Every function takes any input and always ends. It returns 0, or the number of
  * the first refusal that applies, and fills the lent array `answer`, whose length
  * is fixed; entries that do not apply are 0. A refusal stores nothing, lists
- * nothing and changes no slot record, with one exception: a storing pass that
- * refuses late (see Passes, below).
+ * nothing, writes no image and changes no slot record, with one exception: a
+ * storing pass that refuses late (see Passes, below).
  *
  * Nothing is allocated, nothing is kept between calls but in what is lent, and
  * nothing is read or written but what is lent. Calls on memory of their own may
@@ -30,7 +30,7 @@
  * moved: use the names below (and see The slot record). 0.6.0 only adds to 0.5.0.
  * From 0.6.0 to 0.7.0 a slot record grew from 21 bytes to 22: the count of startable
  * slots stands at its end. Code compiled with a header before 0.7.0 lends too little:
- * compile it anew.
+ * compile it anew. 0.8.0 only adds to 0.7.0.
  *
  * Where it runs
  *
@@ -52,7 +52,12 @@
  * judging both images takes, and time in proportion to their chunks and to the bytes
  * of the blocks that both write and at least one of them raw: it goes over these
  * twice at most, and once where the space has three numbers for each block. Any
- * other blocks cost nothing of their own, however many there are. All else takes a
+ * other blocks cost nothing of their own, however many there are. Joining takes what
+ * judging both images takes, and time in proportion to their chunks and to the bytes
+ * of the raw blocks that come to be written, those of the second image and those of
+ * the first that the second does not write: it goes over the chunks and these blocks
+ * twice, to measure and then to copy, and once more over what it copies, for the
+ * checksum. Blocks that are fill or kept cost nothing of their own. All else takes a
  * fixed number of steps.
  *
  * What a restart assumes
@@ -73,7 +78,7 @@
 #include <stdint.h>
 
 /* The version of the header, the library and the host tool; it stands only here. */
-#define TARPAULARK_VERSION "0.7.0"
+#define TARPAULARK_VERSION "0.8.0"
 
 /* Lengths of the answers, of a slot record and each slot in it, of the state of a
    pass, and of a run in numbers. */
@@ -93,6 +98,7 @@
 #define TARPAULARK_PASS 112
 #define TARPAULARK_COMPARE_ANSWER 3
 #define TARPAULARK_RUN 3
+#define TARPAULARK_JOIN_ANSWER 3
 
 /* Where the state of a pass has the known fields of the file header, once they have come. */
 #define TARPAULARK_PASS_HEADER 68
@@ -101,10 +107,15 @@
 #define TARPAULARK_WRITE_BOUND(flat_len, block_size) \
     (28 + (uint64_t)(flat_len) + 12 * ((uint64_t)(flat_len) / (block_size)))
 
+/* The most bytes that the joining of two images of so many blocks takes. */
+#define TARPAULARK_JOIN_BOUND(total_blocks, block_size) \
+    (28 + (uint64_t)(total_blocks) * ((uint64_t)(block_size) + 12))
+
 /*
  * Refusals. Tests run in the order listed, but for 13 before 12, 28, 27 before 26,
- * and for a pass 16, 14, 15 before all others; for compare the first image's own,
- * the second's own, 17, 18. Chunks are tested in order, each fully before the next.
+ * and for a pass 16, 14, 15 before all others; for compare and join the first
+ * image's own, the second's own, 17, 18. Chunks are tested in order, each fully
+ * before the next.
  *
  * A sparse refusal carries a place: 0 for numbers 1 to 6, the chunk's offset for
  * 7, 8 and a passed total, the offset after the header and all chunks for a short
@@ -148,9 +159,11 @@ enum tarpaulark_refusal {
     TARPAULARK_BAD_FEWER = 15,
     /* a pass: the lent partition has another length than announced */
     TARPAULARK_BAD_PARTITION = 16,
-    /* compare: block size or total blocks of the two images differ */
+    /* compare and join: block size or total blocks of the two images differ; join
+       also: total blocks x block size above 2,147,483,648 */
     TARPAULARK_BAD_GEOMETRY = 17,
-    /* compare: the runs need more numbers than the lent space has */
+    /* compare: the runs need more numbers than the lent space has; join: output too
+       short for the joined image */
     TARPAULARK_BAD_SPACE = 18,
     /* boot input under 44 bytes, or (after 23) under its header length */
     TARPAULARK_BAD_BOOT_LENGTH = 21,
@@ -180,7 +193,7 @@ enum tarpaulark_refusal {
 /* Positions in the answers of judge, store, a pass, store_limited and write. The
    counts are those of judge, store and the finishing of a pass; see judge. */
 enum {
-    TARPAULARK_PLACE = 0,           /* of the refusal, in each of them, chunk's and compare's */
+    TARPAULARK_PLACE = 0,           /* of the refusal, in each of them, and chunk's, compare's, join's */
     TARPAULARK_COUNT_WRITTEN = 1,   /* blocks of raw and fill chunks */
     TARPAULARK_COUNT_DONT_CARE = 2, /* blocks of don't care chunks */
     TARPAULARK_COUNT_UNKNOWN = 3,   /* blocks of chunks of unknown type */
@@ -214,10 +227,12 @@ enum {
     TARPAULARK_UNKNOWN = 3    /* any other */
 };
 
-/* Positions in the answer of compare, after the place; in a run; and kinds of a run. */
+/* Positions in the answers of compare and join, after the place; in a run; and kinds
+   of a run. */
 enum {
     TARPAULARK_IMAGE = 1, /* which image a refusal is of: 1, 2, or 0 (see compare) */
-    TARPAULARK_RUNS = 2   /* how many runs; 0 after a refusal */
+    TARPAULARK_RUNS = 2,  /* compare: how many runs; 0 after a refusal */
+    TARPAULARK_JOINED = 2 /* join: the joined image's length; 0 after a refusal */
 };
 enum {
     TARPAULARK_RUN_FIRST = 0,  /* its first block */
@@ -352,6 +367,48 @@ uint32_t tarpaulark_store_limited(
 uint32_t tarpaulark_compare(
     const uint8_t *first, size_t first_len, const uint8_t *second, size_t second_len,
     uint32_t *runs, size_t runs_len, uint64_t answer[TARPAULARK_COMPARE_ANSWER]);
+
+/*
+ * Joins two sparse images of equal block size and total blocks into one that has the
+ * effect of the first followed by the second. Reads both, which may be one and the
+ * same memory; writes the joined image to the first bytes of out. It reads back as
+ * one update: on every partition with room, storing it leaves what storing the first
+ * and then the second leaves, and keeps what both keep.
+ *
+ * A block that the second image writes gets the second's bytes; one that only the
+ * first writes gets the first's; one that neither writes is kept. Blocks of don't
+ * care chunks and of chunks of unknown type are not written.
+ *
+ * The joined image is compact. A block that is written and whose 4-byte words are all
+ * equal becomes fill, any other that is written raw, and a block that is kept don't
+ * care, whatever chunks the two images have; neighbouring raw blocks share one chunk,
+ * so do neighbouring fill blocks with the same word and neighbouring kept blocks, and
+ * no chunk is empty. There are no chunks of unknown type, and no bytes but the known
+ * fields in its headers. So two joined images of equal block size and total blocks
+ * have equal effect on every partition with room exactly when their bytes are equal,
+ * and of three images it does not matter which two are joined first, where every
+ * joining is accepted.
+ *
+ * The header is as tarpaulark_write makes it: version 1.0, header sizes 28 and 12. It
+ * states the true checksum, kept blocks counted as zeros, also where the two images
+ * state none; where that is 0 it reads as none stated. Two images of 0 blocks give
+ * the 28 bytes of a header.
+ *
+ * 18 comes exactly when out is shorter than the joined image, so never where
+ * TARPAULARK_JOIN_BOUND bytes are lent. Output bytes past the image, and all of them
+ * after a refusal, keep what they held.
+ *
+ * Refusals: the first image's own, 1 to 5 and 7 to 11; then the second's own; 17,
+ * where block size or total blocks differ, or total blocks x block size is above
+ * 2,147,483,648; 18. Each image is judged as if the partition had room for it, so 6
+ * does not come.
+ * answer: place; which image the refusal is of, 1 or 2, but 0 for 17 and 18, whose
+ * place is 0 too, and where nothing is refused; the joined image's length, 0 after a
+ * refusal.
+ */
+uint32_t tarpaulark_join(
+    const uint8_t *first, size_t first_len, const uint8_t *second, size_t second_len,
+    uint8_t *out, size_t out_len, uint64_t answer[TARPAULARK_JOIN_ANSWER]);
 
 /*
  * Writes the sparse image of flat bytes to the first bytes of out. Output bytes

@@ -35,6 +35,7 @@ sys.path.insert(0, os.path.join(HERE, "reference"))
 import build
 import cases_boot
 import cases_compare
+import cases_join
 import cases_passes
 import cases_slots
 import cases_sparse
@@ -42,6 +43,7 @@ import cases_store
 import cases_write
 import compare
 import fields
+import join
 import passes
 import sparse
 import store
@@ -354,6 +356,58 @@ def numbers_lent(rng: random.Random, first: bytes, second: bytes) -> int:
     return max(0, pick(rng, (near, near, near, near, all_single, all_single, 0, below(rng, 99))))
 
 
+def edge_pair(rng: random.Random) -> cases_compare.Images:
+    """Two rows of blocks of any kinds, in chunks that end at other blocks in each image."""
+    size, total = pick(rng, (4, 8, 12, 16, 64)), 1 + below(rng, 12)
+    rows = ["".join(pick(rng, cases_join.LETTERS) for _ in range(total)) for _ in range(2)]
+    cuts = [1 + below(rng, total) for _ in rows]
+    first, second = (
+        cases_join.row_image(row, size, 1 + below(rng, 255), cut) for row, cut in zip(rows, cuts)
+    )
+    return first, second
+
+
+def limit_pair(rng: random.Random) -> cases_compare.Images:
+    """Two images of as many bytes as a joined one may have, or about so many."""
+    total, size = pick(rng, cases_join.PRODUCTS[:12])
+    first, second = (
+        build.sparse_image(size, cases_join.wide_plans(total, below(rng, 20))) for _ in range(2)
+    )
+    return first, second
+
+
+def joined_twice(rng: random.Random) -> cases_compare.Images:
+    """A joined image, and another of its blocks or one that was joined."""
+    first, second = edge_pair(rng)
+    joined = join.image_of(first, second)
+    pair = (joined, pick(rng, (first, second, joined)))
+    return pair if below(rng, 2) == 0 else pair[::-1]
+
+
+def zero_sum_pair(rng: random.Random) -> cases_compare.Images:
+    """Two images whose joined image has the checksum 0."""
+    total = 1 + below(rng, 5)
+    first = "".join(pick(rng, cases_join.LETTERS) for _ in range(total))
+    second = "".join(pick(rng, cases_join.LETTERS) for _ in range(total - 1))
+    return cases_join.zero_sum_pair(pick(rng, (4, 8, 12)), first, second, below(rng, 2) == 0)
+
+
+def join_input(rng: random.Random) -> cases_compare.Images:
+    """Two images as for a comparison, or such as are made for joining."""
+    makers = (edge_pair,) * 5 + (limit_pair, joined_twice, zero_sum_pair)
+    return pick(rng, (pair_input,) * 8 + makers)(rng)
+
+
+def output_length(rng: random.Random, first: bytes, second: bytes) -> int:
+    """As many bytes as the joined image has, or some less or more; the bound of any such
+    joining, where it is short; none; or any."""
+    needed = cases_join.needed_room((first, second))
+    near = needed + pick(rng, (-29, -12, -4, -1, -1, 0, 0, 0, 0, 1, 7, 60))
+    header = sparse.read_header(first)
+    bound = sparse.HEADER_LENGTH + header.total_blocks * (header.block_size + 12)
+    return max(0, pick(rng, (near,) * 12 + (min(bound, LARGEST_LENT), 0, below(rng, 400))))
+
+
 def boot_input(rng: random.Random) -> bytes:
     """A boot image, whole or damaged, or bytes that are none."""
     image = cases_boot.random_image(rng)
@@ -473,6 +527,14 @@ def compare_call(rng: random.Random) -> Call:
     number, *out = cases_compare.answer_values(answer)
     after = as_space(compare.space_after(answer, space))
     return Call((first, second, as_space(space)), number, tuple(out), (first, second, after))
+
+
+def join_call(rng: random.Random) -> Call:
+    """`join`: place, image, the joined image's length; the image stands in the output."""
+    first, second = join_input(rng)
+    output = many_bytes(rng, output_length(rng, first, second))
+    number, *out, after = join.join(first, second, output)
+    return Call((first, second, output), number, tuple(out), (first, second, after))
 
 
 def locate_call(rng: random.Random) -> Call:
@@ -755,6 +817,7 @@ KINDS = (
     single("header", ("bytes", 64), 6, header_call),
     single("chunk", ("bytes", 64, 32), 6, chunk_call),
     single("compare", ("bytes", "bytes", "numbers"), 3, compare_call),
+    single("join", ("bytes", "bytes", "bytes"), 3, join_call),
     single("locate", ("bytes",), 19, locate_call),
     single("slots_valid", ("record",), 0, valid_call),
     single("slots_startable", ("record",), 1, startable_call),

@@ -11,6 +11,7 @@ machine cannot make.  Prints one line a tool, `host: N cases and M checks agree`
 
 import contextlib
 import fcntl
+import itertools
 import json
 import os
 import pty
@@ -38,6 +39,7 @@ import cases_compare
 import cases_store
 import compare
 import demo
+import join
 import passes
 import sparse
 import store
@@ -75,6 +77,34 @@ NEXT = build.sparse_image(4, [
     build.fill(b"qqqq", 1), build.skip(2), build.fill(bytes(4), 2), build.skip(3),
 ])
 
+JOINED = build.sparse_image(4, [
+    build.fill(b"abcd", 1), build.fill(b"abcf", 1), build.fill(b"aaaa", 3), build.fill(b"bbbb", 1), build.skip(1),
+    build.fill(b"wxyz", 1), build.fill(b"qqqq", 1), build.fill(b"zzzz", 2), build.fill(bytes(4), 2), build.skip(1),
+    build.fill(b"1234", 1), build.fill(b"5678", 1),
+])
+
+# Two images whose joining has raw blocks of one and of both, fill of raw and of both, and kept blocks.
+UNDER = build.sparse_image(8, [
+    build.raw(b"abcdefghabcdabcd12345678", 8), build.fill(b"wxyz", 2), build.skip(2), build.unknown(7, 1),
+    build.skip(1), build.raw(b"hgfedcba", 8),
+])
+OVER = build.sparse_image(8, [
+    build.skip(2), build.raw(b"87654321wxyzwxyz", 8), build.skip(1), build.raw(bytes(8), 8), build.fill(bytes(4), 1),
+    build.skip(1), build.unknown(8, 2, b"more"),
+], checksum=0)
+UNDER_OVER = build.sparse_image(8, [
+    build.raw(b"abcdefgh", 8), build.fill(b"abcd", 1), build.raw(b"87654321", 8), build.fill(b"wxyz", 2),
+    build.fill(bytes(4), 2), build.skip(2), build.raw(b"hgfedcba", 8),
+])
+OVER_UNDER = build.sparse_image(8, [
+    build.raw(b"abcdefgh", 8), build.fill(b"abcd", 1), build.raw(b"12345678", 8), build.fill(b"wxyz", 2),
+    build.fill(bytes(4), 2), build.skip(2), build.raw(b"hgfedcba", 8),
+])
+
+# As many bytes as can be joined, and a block more.
+MOST = build.sparse_image(65536, [build.fill(b"most", 32767), build.skip(1)])
+TOO_MUCH = build.sparse_image(65536, [build.fill(b"most", 32767), build.skip(2)])
+
 # Where a slot of a record has its tries.
 TRIES = 4
 
@@ -101,6 +131,10 @@ FILES: Dict[str, bytes] = {
     "unsummed": build.sparse_image(4, PLANS, checksum=0),
     "last": LAST,
     "next": NEXT,
+    "under": UNDER,
+    "over": OVER,
+    "most": MOST,
+    "too-much": TOO_MUCH,
     "raws": build.sparse_image(8, [build.raw(b"abcdabcd" * 3, 8)]),
     "fills": build.sparse_image(8, [build.fill(b"abcd", 3)]),
     "zeros": build.sparse_image(8, [build.fill(bytes(4), 2), build.raw(bytes(8), 8)]),
@@ -304,6 +338,39 @@ CASES = (
     Case("diff missing p2", 3, ""),
     Case("diff - p2", 3, ""),
     Case("map p2 --map", 2, ""),
+    Case("join last next joined", 0, "ok bytes 212 block 4 total 16 chunks 12"),
+    Case("join under over joined1", 0, "ok bytes 148 block 8 total 10 chunks 7"),
+    Case("join over under joined2", 0, "ok bytes 148 block 8 total 10 chunks 7"),
+    Case("join p7 p8 joined3", 0, "ok bytes 56 block 4 total 3 chunks 2"),
+    Case("join gaps gaps joined4", 0, "ok bytes 40 block 8 total 3 chunks 1"),
+    Case("join nothing nothing joined5", 0, "ok bytes 28 block 4096 total 0 chunks 0"),
+    Case("join most most joined6", 0, "ok bytes 56 block 65536 total 32768 chunks 2"),
+    Case("join -- raws fills joined7", 0, "ok bytes 44 block 8 total 3 chunks 1"),
+    Case("join p6 p2 refused", 1, "refused 10 at 56"),
+    Case("join p2 p6 refused", 1, "refused 10 at 56"),
+    Case("join wrong p6 refused", 1, "refused 11 at 24"),
+    Case("join p6 wrong refused", 1, "refused 10 at 56"),
+    Case("join kinds p6 long", 1, "refused 10 at 56"),
+    Case("join p6 kinds long", 1, "refused 10 at 56"),
+    Case("join p2 none refused", 1, "refused 1 at 0"),
+    Case("join p2 kinds long", 1, "refused 17 at 0"),
+    Case("join p2 raws refused", 1, "refused 17 at 0"),
+    Case("join too-much too-much long", 1, "refused 17 at 0"),
+    Case("join most too-much refused", 1, "refused 17 at 0"),
+    Case("join too-much p6 refused", 1, "refused 10 at 56"),
+    Case("join p2 p7 p2", 2, ""),
+    Case("join p2 p7 p7", 2, ""),
+    Case("join p2 p2 p2", 2, ""),
+    Case("join p2 p7 refused --map", 2, ""),
+    Case("join p2 p7 refused --limit 1", 2, ""),
+    Case("join p2 - refused --length 56", 2, ""),
+    Case("join p2 p7", 2, ""),
+    Case("join p2 p7 refused refused", 2, ""),
+    Case("join", 2, ""),
+    Case("join p2 missing refused", 3, ""),
+    Case("join missing p2 refused", 3, ""),
+    Case("join - p2 refused", 3, ""),
+    Case("join p2 p7 missing/image", 3, ""),
     Case("write flat 8 image", 0, "ok bytes 64"),
     Case("write none 4096 small", 0, "ok bytes 28"),
     Case("write flat 0 refused", 1, "refused 5 at 0"),
@@ -358,7 +425,16 @@ LEFT: Dict[str, bytes] = {
     "none": b"",
     "none2": record_of("10003 00003 00003 00003"),
     "p2": FILES["p2"],
+    "p7": FILES["p7"],
     "flat": FILES["flat"],
+    "joined": JOINED,
+    "joined1": UNDER_OVER,
+    "joined2": OVER_UNDER,
+    "joined3": FILES["p2"],
+    "joined4": build.sparse_image(8, [build.skip(3)]),
+    "joined5": FILES["nothing"],
+    "joined6": MOST,
+    "joined7": FILES["fills"],
     "image": P9_IMAGE,
     "small": build.sparse_image(4096, []),
     "odd": FILES["odd"],
@@ -490,6 +566,7 @@ def printed_into_files(tool: Tool) -> None:
             expect(read("fresh") == FILES["cut"], f"{words} {out}: the partition")
     save("tried", TRIED)
     for words, name in (("list p2", "p2"), ("diff p2 p7", "p2"), ("diff p2 p7", "p7"), ("diff p2 p7 --svg p6", "p6"),
+                        ("join p2 p7 p6", "p2"), ("join p2 p7 p6", "p7"), ("join p2 p7 p6", "p6"),
                         ("slots tried show", "tried"), ("slots tried start", "tried"),
                         ("write flat 8 p6", "p6"), ("judge - 12 --length 56 <p2", "p2"),
                         ("store - p6 --length 56 <p2", "p6"), ("store - p6 --length 56 <p2", "p2")):
@@ -514,7 +591,7 @@ def kinds_of_targets(tool: Tool) -> None:
     node = device_node("/dev/null", stat.S_IFCHR)
     for target in ("pipe", "folder", node):
         for words in ("write flat 8 {}", "slots {} fresh 2", "slots {} start", "map p2 --svg {}", "store p2 {}",
-                      "diff p2 p7 --svg {}"):
+                      "diff p2 p7 --svg {}", "join p2 p7 {}"):
             expect_end(tool.run(words.format(target)), 2)
     expect(stat.S_ISFIFO(os.stat("pipe").st_mode), "the pipe is replaced")
     expect(stat.S_ISCHR(os.stat(node).st_mode), "the null device is replaced")
@@ -542,6 +619,7 @@ def block_devices(tool: Tool) -> None:
     with loop_device("disk") as device:
         node = device_node(device, stat.S_IFBLK)
         expect_end(tool.run(f"write flat 8 {node}"), 2)
+        expect_end(tool.run(f"join p2 p7 {node}"), 2)
         expect_end(tool.run(f"slots {node} fresh 2"), 2)
         expect(stat.S_ISBLK(os.stat(node).st_mode), "the block device is replaced")
         held = os.open(device, os.O_RDONLY | os.O_EXCL)
@@ -607,6 +685,9 @@ def locks(tool: Tool) -> None:
             expect_end(tool.run("judge p2 12"), status)
             expect_end(tool.run("diff p2 p7"), status)
             expect_end(tool.run("diff p7 p2"), status)
+            expect_end(tool.run("join p2 p7 image"), status)
+            expect_end(tool.run("join p7 p2 image"), status)
+            expect_end(tool.run("join p7 p7 p2"), 3, "is busy")
             expect_end(tool.run("write flat 8 p2"), 3, "is busy")
     expect(read("cut") == FILES["cut"] and read("tried") == TRIED and read("p2") == FILES["p2"], "files while held")
 
@@ -618,6 +699,7 @@ def locks_to_the_end(tool: Tool) -> None:
         ("store p2 cut", ("store p2 cut", "store p2 cut --dry-run", "write flat 8 p2")),
         ("slots tried start", ("slots tried start", "slots tried confirm", "slots tried fresh 2")),
         ("write flat 8 p6", ("write flat 8 p6", "judge p6 12", "write p2 4 flat")),
+        ("join p2 p7 p6", ("join p2 p7 p6", "write flat 8 p6", "judge p6 12", "write flat 8 p2", "write flat 8 p7")),
     ):
         with waiting(tool, words):
             for other in others:
@@ -642,8 +724,8 @@ def replaced_at_once(tool: Tool) -> None:
     save("another", record_of("10007"))
     expect_end(tool.run("slots tried start", SWAP="tried"), 0)
     expect(read("tried")[TRIES] == 6, f"{read('tried')[TRIES]} tries are left of the record that took the place")
-    for faults in ({}, {"NO_NAMELESS": "1"}):
-        with waiting(tool, "write flat 8 image", **faults) as process:
+    for words, faults in itertools.product(("write flat 8 image", "join p2 p7 image"), ({}, {"NO_NAMELESS": "1"})):
+        with waiting(tool, words, **faults) as process:
             save("image", b"another's")
             os.remove("mark")
             words = process.communicate(timeout=LONGEST_WAIT)[1]
@@ -664,12 +746,15 @@ def changed_image(tool: Tool) -> None:
     expect(lost["status"] == 3, "an object for a lost file")
     for words in ("judge p2 12", "judge p6 12", "list p2", "map p2", "sections p2", "store p2 cut --dry-run",
                   "store p6 cut --dry-run", "write p2 4 image", "store p2 cut", "store p6 cut", "diff p2 p7",
-                  "diff p6 p7"):
+                  "diff p6 p7", "join p2 p7 image", "join p6 p7 image"):
         name = words.split()[1]
         save(name, FILES[name])
         expect_end(tool.run(words, GROW=name), 3, "changed while it was")
     expect_end(tool.run("diff none p7", GROW="p7"), 3, "p7: changed while it was")
     expect_end(tool.run("diff last next", CUT="last"), 3, "to its end")
+    expect_end(tool.run("join none p7 image", GROW="p7"), 3, "p7: changed while it was")
+    expect_end(tool.run("join under over image", CUT="under"), 3, "to its end")
+    expect(not os.path.exists("image"), "an image is made of changed ones")
 
 
 def lost_partitions(tool: Tool) -> None:
@@ -697,6 +782,8 @@ def bad_disk(tool: Tool) -> None:
     for words, faults, said in kept + [
         ("write flat 8 p6", {"BAD_FILE": "1"}, "nothing is changed"),
         ("write flat 8 new", {"BAD_FILE": "1", "NO_NAMELESS": "1"}, "nothing is changed"),
+        ("join p2 p7 p6", {"BAD_FILE": "1"}, "nothing is changed"),
+        ("join p2 p7 new", {"BAD_FILE": "1", "NO_NAMELESS": "1"}, "nothing is changed"),
         ("store p2 cut", {"BAD_FILE": "1"}, "may not be on the disk"),
     ]:
         done = tool.run(words, **faults)
@@ -713,7 +800,7 @@ def pipes_as_images(tool: Tool) -> None:
     os.mkfifo("pipe")
     for words in ("judge pipe 12", "store pipe cut", "store pipe cut --dry-run", "list pipe", "map pipe",
                   "sections pipe", "write pipe 4096 image", "slots pipe show", "judge /dev/stdin 12",
-                  "diff pipe p2", "diff p2 pipe"):
+                  "diff pipe p2", "diff p2 pipe", "join pipe p2 image", "join p2 pipe image"):
         expect_end(tool.run(words, "</dev/null" if "stdin" in words else ""), 2)
 
 
@@ -731,8 +818,8 @@ def interrupted_writes(tool: Tool) -> None:
     before = set(os.listdir("."))
     numbers = [signal.SIGINT, signal.SIGTERM, signal.SIGHUP]
     for faults, ends in (({}, numbers + [signal.SIGKILL] * has_nameless()), ({"NO_NAMELESS": "1"}, numbers)):
-        for number in ends:
-            with waiting(tool, "write flat 8 image", **faults) as process:
+        for words, number in itertools.product(("write flat 8 image", "join p2 p7 image"), ends):
+            with waiting(tool, words, **faults) as process:
                 names = [name for name in os.listdir(".") if name.startswith(".tarpaulark")]
                 expect(bool(names) or not faults, "a file with a name")
                 process.send_signal(number)
@@ -759,6 +846,9 @@ def folder_not_synced(tool: Tool) -> None:
     told = json.loads(tool.run("slots tried start --json", BAD_FOLDER="1").stdout)
     expect((told["answer"], told["slot"], told["status"]) == ("starts", "a", 3), f"the object {told}")
     expect_end(tool.run("write flat 8 image", BAD_FOLDER="1"), 3, "again")
+    done = tool.run("join p2 p7 image", BAD_FOLDER="1")
+    expect_end(done, 3, "again")
+    expect(done.stdout.startswith("ok bytes 56 ") and read("image") == FILES["p2"], "an image that stands", done)
 
 
 # What is remarked on images: no checksum, and chunks of unknown type.
@@ -1343,6 +1433,150 @@ def no_memory(tool: Tool) -> None:
         expect(done.returncode == 3 and words in said, "what is said", done)
 
 
+# Two images made one.
+
+def expect_joined(tool: Tool, first: bytes, second: bytes) -> bytes:
+    """The joining of two images, in place of whatever stood there, is the reference's; all that is said of it."""
+    save("first", first)
+    save("second", second)
+    done, told = tool.run("join first second both"), json.loads(tool.run("join first second other --json").stdout)
+    image = read("both")
+    expect(image == join.image_of(first, second) == read("other"), f"the image of {first!r} and {second!r}", done)
+    header = sparse.read_header(image)
+    numbers = len(image), header.block_size, header.total_blocks, header.total_chunks
+    expect(done.stdout == "ok bytes {} block {} total {} chunks {}\n".format(*numbers), f"{numbers}", done)
+    expect((told["bytes"], told["block"], told["total"], told["chunks"]) == numbers and not told["status"], f"{told}")
+    remarks = [f"{side} image: {one}\n" for side, one in zip(("first", "second"), map(joint_remarks, (first, second)))
+               if one]
+    expect(done.stderr == "".join(remarks), f"{remarks} expected", done)
+    expect([told[side] + "\n" for side in ("first", "second") if side in told] == remarks, f"{told}")
+    return image
+
+
+def joint_remarks(image: bytes) -> str:
+    """What is remarked on an accepted image, in one line."""
+    return remarks_on(image).rstrip("\n").replace("\n", "; ")
+
+
+def stored_by(tool: Tool, partition: bytes, *images: bytes) -> bytes:
+    """What the tool leaves of a partition when it stores images one after the other."""
+    save("fresh", partition)
+    for image in images:
+        save("image", image)
+        expect_end(tool.run("store image fresh"), 0)
+    return read("fresh")
+
+
+def joined_as_the_reference(tool: Tool) -> None:
+    """Random images are joined as by the reference, and storing the one leaves what storing the two leaves."""
+    rng = random.Random(16)
+    save("both", b"old" * 1000)
+    for _ in range(12):
+        pair = cases_compare.random_pair(rng, (4, 8, 12), 40)
+        first, second = cases_compare.images_of(rng, pair)
+        image = expect_joined(tool, first, second)
+        partition = rng.randbytes(pair.size * len(pair.first) + rng.randrange(9))
+        expect(stored_by(tool, partition, image) == stored_by(tool, partition, first, second), "what is stored")
+
+
+def joined_in_groups(tool: Tool) -> None:
+    """Of three images it does not matter which two are joined first; one joined with itself, and once more, is the
+    same; and images of one effect become the same bytes."""
+    rng = random.Random(17)
+    for _ in range(6):
+        size, count = rng.choice((4, 8, 12)), rng.randrange(1, 30)
+        rows = [cases_compare.random_blocks(rng, size, count) for _ in range(3)]
+        one, two, three = (cases_compare.image_of(rng, size, row) for row in rows)
+        left = expect_joined(tool, expect_joined(tool, one, two), three)
+        right = expect_joined(tool, one, expect_joined(tool, two, three))
+        expect(left == right, f"three images, {one!r}, {two!r}, {three!r}")
+        compact = expect_joined(tool, one, one)
+        expect(expect_joined(tool, compact, compact) == compact, f"joined twice, {one!r}")
+        again = cases_compare.image_of(rng, size, rows[0])
+        expect(expect_joined(tool, again, again) == compact, f"one effect, {one!r} and {again!r}")
+
+
+@contextlib.contextmanager
+def nothing_made() -> Iterator[None]:
+    """The file `both` stands as it was, and none is made or left over."""
+    save("both", b"as it was")
+    before, names = os.stat("both"), set(os.listdir("."))
+    yield
+    after = os.stat("both")
+    expect(read("both") == b"as it was" and (after.st_ino, after.st_mtime_ns) == (before.st_ino, before.st_mtime_ns),
+           "the file that stood there")
+    expect(set(os.listdir(".")) == names, "what is left over")
+
+
+def joins_refused(tool: Tool) -> None:
+    """An image that is refused, as the first, as the second and as both, also where they could not be joined."""
+    for image in cases_compare.refused_images():
+        for first, second in ((image, FILES["kinds"]), (TOO_MUCH, image), (image, FILES["wrong"]),
+                              (FILES["p6"], image)):
+            save("first", first)
+            save("second", second)
+            refusal = join.refusal_of(first, second)
+            assert refusal is not None
+            name = ("first", "second")[refusal.image - 1]
+            with nothing_made():
+                done = tool.run("join first second both")
+                told = json.loads(tool.run("join first second new --json").stdout)
+            expect_end(done, 1, f"refused {refusal.number} at {refusal.place}\n")
+            expect(done.stderr.endswith(f"\nin the {name} image, {name}\n") and not done.stdout, f"{refusal}", done)
+            expect((told["number"], told["place"], told["image"], told["name"], told["status"])
+                   == (refusal.number, refusal.place, name, name, 1), f"{refusal}: {told}")
+
+
+def told_of_geometry(tool: Tool) -> None:
+    """Of 17 it is said which of its reasons it is: images that differ, or too many bytes."""
+    differ = "block size or total blocks of the two images differ"
+    above = "total blocks x block size above 2,147,483,648: too large to be joined"
+    save("vast", build.sparse_image(65536, [build.skip(2**32 - 1)]))
+    save("short", build.sparse_image(4, [build.fill(b"\0\0\0\1", 2**29), build.unknown(5, 1)]))
+    for names, meaning, geometry in (
+        ("p2 kinds", differ, "first image: block 4 total 3; second image: block 4 total 10"),
+        ("raws p2", differ, "first image: block 8 total 3; second image: block 4 total 3"),
+        ("most too-much", differ, "first image: block 65536 total 32768; second image: block 65536 total 32769"),
+        ("vast too-much", differ, "first image: block 65536 total 4294967295; second image: block 65536 total 32769"),
+        ("too-much too-much", above, "both images: block 65536 total 32769"),
+        ("vast vast", above, "both images: block 65536 total 4294967295"),
+        ("short short", above, "both images: block 4 total 536870913"),
+    ):
+        with nothing_made():
+            done, told = tool.run(f"join {names} both"), json.loads(tool.run(f"join {names} new --json").stdout)
+        expect(done.stderr == f"refused 17 at 0\n{meaning}\n{geometry}\n" and not done.stdout, names, done)
+        expect((told["number"], told["place"], told["meaning"]) == (17, 0, meaning), f"{told}")
+        expect(told["geometry"] == geometry and "image" not in told and "name" not in told, f"{told}")
+
+
+def joined_vast(tool: Tool) -> None:
+    """As many bytes as can be joined, in the longest blocks and in the shortest."""
+    expect(expect_joined(tool, MOST, MOST) == MOST, "a compact image")
+    for size, blocks in ((65536, 2**15), (4, 2**29)):
+        first = [build.fill(b"more", blocks // 4), build.skip(blocks // 4), build.fill(b"less", blocks // 2)]
+        second = [build.skip(blocks // 2 + 1), build.raw(bytes(size), size), build.fill(b"less", 1),
+                  build.unknown(9, blocks // 2 - 3)]
+        plans = first[:2] + [build.fill(b"less", 1), build.fill(bytes(4), 1), build.fill(b"less", blocks // 2 - 2)]
+        image = expect_joined(tool, build.sparse_image(size, first), build.sparse_image(size, second))
+        expect(image == build.sparse_image(size, plans), f"the image of blocks of {size} bytes")
+
+
+def joined_over_links(tool: Tool) -> None:
+    """The file that a link leads to is replaced, by a shorter one or a longer; its mode stays."""
+    os.symlink("real", "both")
+    for old in (b"", b"old" * 1000):
+        save("real", old)
+        os.chmod("real", 0o640)
+        expect_joined(tool, UNDER, OVER)
+        expect(os.path.islink("both") and read("real") == UNDER_OVER, "the file that the link leads to")
+        expect(stat.S_IMODE(os.stat("real").st_mode) == 0o640, "its mode")
+    os.link("p2", "hard")
+    expect_end(tool.run("join p7 p8 hard"), 2, "hard links")
+    os.symlink("p7", "soft")
+    expect_end(tool.run("join p7 p8 soft"), 2, "an image and OUT are one file: name another")
+    expect(read("p2") == FILES["p2"] and read("p7") == FILES["p7"], "images under other names")
+
+
 # The slot record.
 
 # An operation, the record before it, what it says, and the record after it.
@@ -1611,7 +1845,7 @@ def same_words(tool: Tool) -> None:
     told = tool.run("--help").stdout
     usages = re.findall(r"^ *(?:usage:)? tarpaulark (.*)$", told, re.MULTILINE)
     statuses = re.findall(r"^(?:Exit status:)? +([0-4]) (.*)$", told, re.MULTILINE)
-    expect(len(usages) == 13 and len(statuses) == 5, f"the help {told}")
+    expect(len(usages) == 14 and len(statuses) == 5, f"the help {told}")
     man = text_of_man(read(os.path.join(ROOT, "host", "tarpaulark.1")).decode("ascii"))
     readme = read(os.path.join(ROOT, "README.md")).decode("utf-8")
     for usage in usages:
@@ -1637,6 +1871,8 @@ def not_printed(tool: Tool) -> None:
     expect_end(tool.run("list p2 --json", ">/dev/full"), 4)
     for more in ("", " --json", " --map"):
         expect_end(tool.run(f"diff last next{more}", ">/dev/full"), 4)
+    expect_end(tool.run("join last next image", ">/dev/full"), 4, "what was asked is done")
+    expect(read("image") == JOINED, "what was asked of join")
     process = tool.begin("list kinds")
     assert process.stdout is not None
     process.stdout.close()
@@ -1666,7 +1902,8 @@ def same_in_json(tool: Tool) -> None:
     for words in ("judge p2 12", "judge p6 12", "judge p7 12", "judge p8 12", "store p2 cut", "store p2 cut --limit 1",
                   "store p7 cut", "store kinds long --dry-run", "store p6 cut", "list kinds", "list p6", "list p7",
                   "list strange", "map kinds", "map p6", "diff p2 p7", "diff last next", "diff last next --map",
-                  "diff nothing nothing", "diff p6 p2", "diff p2 kinds",
+                  "diff nothing nothing", "diff p6 p2", "diff p2 kinds", "join last next image", "join p7 p8 image",
+                  "join p6 p2 image", "join p2 kinds image", "join too-much too-much image",
                   "write flat 8 image", "write flat 12 image", "sections boot", "sections flat",
                   "slots tried show", "slots odd show", "slots old17 show", "slots old21 show", "slots tried status",
                   "slots miscounted status", "slots tried corrupted a", "slots tried fresh 5", "slots tried fresh 3"):
@@ -1760,6 +1997,8 @@ def two_names_of_any_bytes(tool: Tool) -> None:
         expect(done.returncode == 1 and controls == ["\n"] * 3, f"a refusal of {name!r}", done)
         told = json.loads(tool.run_bytes(b"diff", b"p2", name, b"--json").stdout.decode("utf-8"))
         expect(told["image"] == "second" and told["status"] == 1, f"the object for {name!r}: {told}")
+        joined = tool.run_bytes(b"join", b"p2", name, b"image")
+        expect(joined.returncode == 1 and joined.stderr == done.stderr, f"the same refusal of {name!r}", joined)
         with open(name, "wb") as file:
             file.write(FILES["p2"])
         done = tool.run_bytes(b"diff", name, name, b"--svg", b"picture.svg")
@@ -1817,6 +2056,7 @@ CHECKS: Tuple[Callable[[Tool], None], ...] = (
     shown_from_pipes, shown_from_files, told_on_terminals,
     compared_as_the_reference, refused_as_the_reference, told_of_refusals, compared_vast, compared_mixed,
     compared_in_svg, compared_at_length, no_memory,
+    joined_as_the_reference, joined_in_groups, joins_refused, told_of_geometry, joined_vast, joined_over_links,
     slot_turns, flags_shown, states_in_words, counts_in_words, wrong_counts, old_records, other_lengths, old_made_new,
     old_of_any_bytes,
     help_and_version, same_words, not_printed, same_in_json, as_the_reference, names_of_any_bytes,

@@ -23,7 +23,8 @@ grep -q "tarpaulark $version" "$root/share/man/man1/tarpaulark.1" || die "the ma
 # An image that is too short is refused with 1, which the header names. Of a fresh record of three slots b is set
 # active and confirmed, and a corrupted: their bytes, the current slot and the count stand where the header says, the
 # count last, and nothing past the record is touched; with another count it is refused. Two images are written and
-# compared: the runs, of a block and of two, stand where the header says.
+# compared: the runs, of a block and of two, stand where the header says. Joined they are the second, whose blocks are all
+# written, with its length where the header says; a byte less is too short, and nothing past it is touched.
 cat >"$folder/use.c" <<'END_C'
 #include <tarpaulark.h>
 
@@ -62,6 +63,22 @@ static int use_slots(void)
         || record[TARPAULARK_RECORD] != 77 || use_count(record);
 }
 
+static int use_join(const uint8_t *first, size_t first_len, const uint8_t *second, size_t second_len)
+{
+    static uint8_t out[TARPAULARK_JOIN_BOUND(3, 4) + 1];
+    uint64_t answer[TARPAULARK_JOIN_ANSWER];
+    size_t i;
+
+    if (tarpaulark_join(first, first_len, second, second_len, out, second_len - 1, answer) != TARPAULARK_BAD_SPACE
+        || answer[TARPAULARK_IMAGE] != 0 || answer[TARPAULARK_JOINED] != 0 || out[0] != 0
+        || tarpaulark_join(first, first_len, second, second_len, out, sizeof out, answer) != 0
+        || answer[TARPAULARK_JOINED] != second_len)
+        return 1;
+    for (i = 0; i < second_len && out[i] == second[i]; i++)
+        continue;
+    return i != second_len || out[i] != 0;
+}
+
 static int use_images(void)
 {
     static const uint8_t first[] = "same" "old1" "old2", second[] = "same" "new1" "new2";
@@ -77,7 +94,8 @@ static int use_images(void)
         return 1;
     return answer[TARPAULARK_IMAGE] != 0 || answer[TARPAULARK_RUNS] != 2
         || runs[TARPAULARK_RUN_KIND] != TARPAULARK_EQUAL || last[TARPAULARK_RUN_FIRST] != 1
-        || last[TARPAULARK_RUN_BLOCKS] != 2 || last[TARPAULARK_RUN_KIND] != TARPAULARK_DIFFERENT;
+        || last[TARPAULARK_RUN_BLOCKS] != 2 || last[TARPAULARK_RUN_KIND] != TARPAULARK_DIFFERENT
+        || use_join(images[0], lengths[0][TARPAULARK_LENGTH], images[1], lengths[1][TARPAULARK_LENGTH]);
 }
 
 int use(void)

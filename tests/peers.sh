@@ -153,6 +153,31 @@ assert told == [(kind, len(list(group))) for kind, group in itertools.groupby(ki
 ' "$1" "$2" "$3"
 }
 
+# Two images joined, through simg2img, are the two through ours, one after the other, on a zeroed partition; and
+# simg2img of the two, one after the other onto one file, gives the same.
+joined_as_two() {
+    "$tool" join "$1" "$2" joined && simg2img joined made && store_zeroed "$1" $((64 * $3)) \
+        && "$tool" store "$2" stored && cmp made stored && simg2img "$1" "$2" made && cmp made stored
+}
+
+# The same on a partition that the image of random bytes was stored on, so that kept blocks show.
+joined_on_random() {
+    simg2img "random.$3.image" joined made && store_zeroed "random.$3.image" $((64 * $3)) \
+        && "$tool" store "$1" stored && "$tool" store "$2" stored && cmp made stored
+}
+
+# The joining of images of one block size, in pairs, each with itself too.
+try_joins() {
+    local block=$1 first second
+    shift
+    for first in "$@"; do
+        for second in "$@"; do
+            expect agrees "simg2img of the joining, $first and $second" joined_as_two "$first" "$second" "$block"
+            expect agrees "the same on random bytes, $first and $second" joined_on_random "$first" "$second" "$block"
+        done
+    done
+}
+
 # Files for the sections that mkbootimg takes; an empty one is a section that is left out.
 make_sections() {
     local name
@@ -278,6 +303,9 @@ if [ $has_simg2img = 1 ]; then
         for gaps in gaps-{all,ends,between,any}."$block"; do
             expect agrees "simg2img, $gaps" stored_as_made "$gaps" $((64 * block))
         done
+        try_joins "$block" {random,fill,mixed}."$block".image gaps-{all,ends,between,any}."$block"
+        [ $has_img2simg = 0 ] || [ "$block" -lt 1024 ] \
+            || try_joins "$block" {fill,mixed}."$block".theirs gaps-{between,any}."$block"
     done
 fi
 

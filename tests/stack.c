@@ -28,7 +28,8 @@
 static uint8_t flat[BLOCKS * BLOCK], image[ROOM], partition[BLOCKS * BLOCK], pass[TARPAULARK_PASS];
 static uint8_t other[ROOM], record[TARPAULARK_RECORD];
 static uint32_t runs[BLOCKS * TARPAULARK_RUN];
-static size_t other_len, runs_len = BLOCKS * TARPAULARK_RUN;
+static uint8_t joined[TARPAULARK_JOIN_BOUND(BLOCKS, BLOCK)];
+static size_t other_len, runs_len = BLOCKS * TARPAULARK_RUN, joined_room = sizeof joined;
 static bool other_first;
 static size_t image_len, told_len, flat_len = sizeof flat, partition_len = sizeof partition, room = ROOM;
 static size_t piece_at, piece_len, chunk_at;
@@ -66,6 +67,14 @@ static void compare(void)
         got(tarpaulark_compare(other, other_len, image, image_len, runs, runs_len, answer));
     else
         got(tarpaulark_compare(image, image_len, other, other_len, runs, runs_len, answer));
+}
+
+static void join(void)
+{
+    if (other_first)
+        got(tarpaulark_join(other, other_len, image, image_len, joined, joined_room, answer));
+    else
+        got(tarpaulark_join(image, image_len, other, other_len, joined, joined_room, answer));
 }
 
 static void write_image(void)
@@ -164,6 +173,7 @@ static struct function {
     {"store", store, false, 0},
     {"store_limited", store_limited, false, 0},
     {"compare", compare, false, 0},
+    {"join", join, false, 0},
     {"write", write_image, false, 0},
     {"header", header, false, 0},
     {"chunk", chunk, false, 0},
@@ -291,13 +301,15 @@ static void run_passes(size_t step)
     run_pass(store_piece, store_finish, step);
 }
 
-/* The image and the other one, in both orders. */
-static void run_compare(void)
+/* The image and the other one, compared and joined in both orders. */
+static void run_pair(void)
 {
     other_first = false;
     measure(compare);
+    measure(join);
     other_first = true;
     measure(compare);
+    measure(join);
 }
 
 static void run_whole(void)
@@ -305,7 +317,7 @@ static void run_whole(void)
     measure(judge);
     measure(store);
     measure(store_limited);
-    run_compare();
+    run_pair();
     measure(header);
     for (size_t i = 0; i < sizeof starts / sizeof starts[0]; i++) {
         chunk_at = starts[i];
@@ -381,20 +393,43 @@ static void try_sparse(void)
     try_image();
 }
 
-/* Two images in space for any number of runs; an image and itself; and one of other geometry. */
+/* Two images in space for any number of runs. */
 static void try_compare(void)
 {
-    for (runs_len = 0; runs_len <= BLOCKS * TARPAULARK_RUN; runs_len++)
-        run_compare();
+    for (runs_len = 0; runs_len <= BLOCKS * TARPAULARK_RUN; runs_len++) {
+        other_first = !other_first;
+        measure(compare);
+    }
     runs_len = BLOCKS * TARPAULARK_RUN;
+    measure(compare);
     expect(number == 0 && answer[TARPAULARK_RUNS] > 3, "the images are not compared");
+}
+
+/* Two images in outputs of any length. */
+static void try_join(void)
+{
+    for (joined_room = 0; joined_room < sizeof joined; joined_room += 61) {
+        other_first = !other_first;
+        measure(join);
+    }
+    joined_room = sizeof joined;
+    measure(join);
+    expect(number == 0 && answer[TARPAULARK_JOINED] > 28, "the images are not joined");
+}
+
+/* An image and one that writes all blocks; an image and itself, of which some are kept; and one of other geometry. */
+static void try_pairs(void)
+{
+    try_compare();
+    try_join();
     memcpy(other, image, image_len);
     other_len = image_len;
-    run_compare();
+    measure(compare);
     expect(number == 0 && answer[TARPAULARK_RUNS] == 4, "an image and itself are not compared");
+    try_join();
     make_other(BLOCK / 2);
     make_image();
-    run_compare();
+    run_pair();
 }
 
 static void try_write(void)
@@ -519,7 +554,7 @@ int main(void)
 
     empty = depth_of(nothing);
     try_sparse();
-    try_compare();
+    try_pairs();
     try_write();
     try_boot();
     try_slots();

@@ -11,16 +11,20 @@ from typing import Any, Callable, Dict, Iterator, List, Sequence, Set, Tuple
 import build
 import cases_boot
 import cases_common
+import cases_join
 import cases_slots
 import compare
 import crc
 import fields
+import join
 import slots
 import sparse
 import store
+import test_join
 import vectors
 import writer
 from cases_compare import Case
+from join import Joined
 from passes import Answer, GoingOn
 from slots import Record, Slot
 from test_compare import cases_in, has_few_blocks, slow_answer
@@ -31,6 +35,7 @@ LARGEST_STORED_IMAGE = 8192
 LARGEST_PARTITION = 4096
 LARGEST_WRITTEN = 69632
 LARGEST_COMPARED_IMAGE = 4096
+LARGEST_JOINED = 8192
 MOST_NUMBERS = 96
 LARGEST_OUTPUT = 450_000
 RECORD = 22
@@ -285,6 +290,30 @@ def compare_lines(data: bytes) -> Lines:
         yield (crc.checksum(struct.pack(f"<{len(found)}I", *found)),)
 
 
+def joined(case: cases_join.Case, room: int) -> Joined:
+    """The images of a case joined, block by block where they have few bytes."""
+    output = bytes((7 + 3 * i) % 256 for i in range(room))
+    is_slow = test_join.has_few_bytes(case)
+    return (test_join.slow_join if is_slow else join.join)(case.first, case.second, output)
+
+
+def join_values(case: cases_join.Case) -> bytes:
+    """The answer and the output after it, and those of an output that is a byte too short."""
+    assert max(len(case.first), len(case.second)) <= LARGEST_COMPARED_IMAGE
+    assert case.room <= LARGEST_JOINED
+    answers = [joined(case, case.room)]
+    if answers[0].number == 0:
+        answers.append(joined(case, answers[0].length - 1))
+        assert answers[1].number == 18
+    return b"".join(struct.pack("<4I", *answer[:4]) + answer.output for answer in answers)
+
+
+def join_lines(data: bytes) -> Lines:
+    cases = test_join.cases_in(data)
+    for at in range(0, len(cases), 32):
+        yield (crc.checksum(b"".join(map(join_values, cases[at:at + 32]))),)
+
+
 READERS: Dict[str, Callable[[bytes], Lines]] = {
     "crc": crc_lines,
     "fields": field_lines,
@@ -296,6 +325,7 @@ READERS: Dict[str, Callable[[bytes], Lines]] = {
     "passes": lines_of_steps(pass_values),
     "write": write_lines,
     "compare": compare_lines,
+    "join": join_lines,
 }
 
 

@@ -12,7 +12,7 @@ Each group is one file, data/GROUP.bin, of at most 262,144 bytes: its cases,
 one directly after the other, up to the end of the file.  All numbers are
 unsigned, low byte first; u8, u32 and u64 have 1, 4 and 8 bytes.  Nothing is
 aligned.  The program takes the groups in the order of GROUPS below and prints
-for each case (for each block of them in `slotsum` and `compare`) one line:
+for each case (for each block of them in `slotsum`, `compare` and `join`) one line:
 
     GROUP INDEX VALUE VALUE ...
 
@@ -123,6 +123,20 @@ compare  case:  first length u32, second length u32, numbers u32 (at most 96), t
                 the block in turn: NUMBER of the refusal or 0; its PLACE, or 0; the
                 IMAGE that it is of, 1, 2, or 0; how many RUNS, 0 when refused; then
                 every number of the space after.
+
+join     case:  first length u32, second length u32, room u32 (at most 8,192), the
+                bytes of the first image, those of the second (at most 4,096 each).
+                One line for each block of 32 cases, the last block being shorter
+                when they do not come out even.
+         The output has `room` bytes, byte i being (7 + 3 * i) % 256 at first.  Where
+                the answer is an image's length, the images are joined once more,
+                into an output that has one byte less than the image, and such bytes
+                at first.
+         values: CHECKSUM of these for each case of the block in turn, and in it for
+                each joining: four numbers, 4 bytes each, low byte first, which are
+                NUMBER of the refusal or 0; its PLACE, or 0; the IMAGE that it is of,
+                1, 2, or 0; the joined image's LENGTH, 0 when refused; then every
+                byte of the output after.
 """
 
 import argparse
@@ -135,6 +149,7 @@ import cases_boot
 import cases_compare
 import cases_crc
 import cases_fields
+import cases_join
 import cases_passes
 import cases_slots
 import cases_sparse
@@ -156,6 +171,7 @@ GROUPS: Tuple[Tuple[str, Callable[[random.Random], Group]], ...] = (
     ("passes", cases_passes.group),
     ("write", cases_write.group),
     ("compare", cases_compare.group),
+    ("join", cases_join.group),
 )
 
 

@@ -1,12 +1,13 @@
 -- Laws of fields, over every width: the bound of a field, fields of lists that are joined or agree, a number's bytes read back,
 -- and bytes that fit at a place or do not.
 -- Assumes nothing.
-use mathlib.Core.Path.{_≡_, refl, sym, ap, _∙_}
+use mathlib.Core.Path.{_≡_, refl, sym, ap, ap₂, _∙_}
 use mathlib.Core.Bool.{Bool, true, false, cond}
 use mathlib.Core.List.{List, [], _∷_, _++_}
 use Prim.Native.Nat.{ℕ, zero, suc, _+_, _-_, _*_, _^_, _/_, _%_, _≤_, _<_}
 use native.Mathlib.Nat.{pow-suc, div-add-mod', add-zero, mod-lt, zero-lt-suc, not-suc-le-zero, le-of-suc-le-suc}
 use native.Mathlib.Omega.{arith}
+use lib.Arith.{mod-mul}
 use lib.ListN.{length, getD, drop, List·getD-append}
 use lib.Seq.{sets, length-sets, getD-drop, getD-append-add}
 use borrow.Author.Tests.{le-leb, lt-leb}
@@ -86,6 +87,18 @@ pub bytes-number : (w v : ℕ) → Bytes (bytes w v)
 bytes-number zero v i = omega arith
 bytes-number (suc w) v zero = mod-lt v (zero-lt-suc 255)
 bytes-number (suc w) v (suc i) = bytes-number w (v / 256) i
+
+-- of a number that is put in so many bytes the rest does not count
+pub bytes-low : (w v p : ℕ) → 256 ^ w ≡ p → 0 < p → bytes w (v % p) ≡ bytes w v
+bytes-low zero v p e h = refl
+bytes-low (suc w) v p e h =
+    let q : p ≡ 256 ^ w * 256 = sym e ∙ pow-suc 256 w in
+    let some : 0 < 256 ^ w = omega arith in
+    let low = mod-lt v (zero-lt-suc 255) in
+    let m : v % p ≡ v / 256 % 256 ^ w * 256 + v % 256 = rw q (mod-mul v some (zero-lt-suc 255)) in
+    let byte : v % p % 256 ≡ v % 256 = omega arith in
+    let on : v % p / 256 ≡ v / 256 % 256 ^ w = omega arith in
+    ap₂ (λ (b : ℕ) (r : List ℕ). b ∷ r) byte (ap (bytes w) on ∙ bytes-low w (v / 256) (256 ^ w) refl some)
 
 -- and so are bytes that are joined
 pub bytes-append : (xs ys : List ℕ) → Bytes xs → Bytes ys → Bytes (xs ++ ys)

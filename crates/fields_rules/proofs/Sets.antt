@@ -1,12 +1,12 @@
--- Laws of bytes stored one after the other: in two parts, past the end, at the start, and read where they stand.
+-- Laws of bytes stored one after the other: in two parts, past the end, at the start, stored anew, and read where they stand.
 -- Assumes nothing.
 use mathlib.Core.Path.{_≡_, refl, sym, ap, _∙_}
 use mathlib.Core.List.{List, [], _∷_, _++_, append-assoc}
-use Prim.Native.Nat.{ℕ, suc, _+_, _≤_}
+use Prim.Native.Nat.{ℕ, suc, _+_, _≤_, _<_}
 use native.Mathlib.Nat.{add-zero}
 use native.Mathlib.Omega.{arith}
 use lib.ListN.{length, set, take, drop, length-append}
-use lib.Seq.{sets, sets-eq, length-sets, set-out, take-nil, take-all, take-at, drop-nil, drop-at, length-take-le}
+use lib.Seq.{sets, sets-eq, length-sets, set-out, set-set, set-comm, take-nil, take-all, take-at, drop-nil, drop-at, length-take-le}
 
 -- a list in two parts
 pub sets-append : (xs ys l : List ℕ) (i : ℕ) → sets l i (xs ++ ys) ≡ sets (sets l i xs) (i + length xs) ys
@@ -32,6 +32,21 @@ sets-start (v ∷ vs) (x ∷ l) = sets-after vs l v 0 ∙ ap (λ (r : List ℕ).
 -- where all has room
 pub sets-whole : (vs l : List ℕ) → length vs ≤ length l → sets l 0 vs ≡ vs ++ drop (length vs) l
 sets-whole vs l h = sets-start vs l ∙ rw (take-all (length l) vs h)
+
+-- a byte before them can be stored first
+set-before : (vs l : List ℕ) (i j x : ℕ) → i < j → set (sets l j vs) i x ≡ sets (set l i x) j vs
+set-before [] l i j x h = refl
+set-before (v ∷ vs) l i j x h =
+    set-before vs (set l j v) i (suc j) x (omega arith) ∙ ap (λ (r : List ℕ). sets r (suc j) vs) (set-comm l j i v x (λ e. absurd (omega arith)))
+
+-- the first bytes stored anew
+pub sets-anew : (xs ys zs l : List ℕ) (i : ℕ) → length ys ≡ length xs → sets (sets l i (xs ++ zs)) i ys ≡ sets l i (ys ++ zs)
+sets-anew [] [] zs l i e = refl
+sets-anew [] (y ∷ ys) zs l i e = absurd (omega arith)
+sets-anew (x ∷ xs) [] zs l i e = absurd (omega arith)
+sets-anew (x ∷ xs) (y ∷ ys) zs l i e =
+    ap (λ (r : List ℕ). sets r (suc i) ys) (set-before (xs ++ zs) (set l i x) i (suc i) y (omega arith) ∙ ap (λ (r : List ℕ). sets r (suc i) (xs ++ zs)) (set-set l i x y))
+    ∙ sets-anew xs ys zs (set l i y) (suc i) (omega arith)
 
 -- what was stored, read where it stands
 pub sets-at : (vs l : List ℕ) (i : ℕ) → i + length vs ≤ length l → take (length vs) (drop i (sets l i vs)) ≡ vs

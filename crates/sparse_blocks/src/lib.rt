@@ -7,6 +7,7 @@ mod reading;
 pub use comparing::is_raw;
 pub use comparing::same_block;
 pub use matching::matched;
+pub use reading::least;
 pub use reading::open;
 pub use reading::pass;
 pub use reading::writes;

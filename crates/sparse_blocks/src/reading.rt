@@ -23,6 +23,13 @@ pub fn writes(kind: Kind) -> bool
     }
 }
 
+// The lesser of two counts of blocks.
+pub fn least(m: u32, n: u32) -> u32
+    ensures { λ r. ⌜ r ≡ min m n ⌝ }
+{
+    if m <= n { m } else { n }
+}
+
 // How many bytes on the data of a chunk's next block stand.
 fn pace(block: u32, kind: Kind) -> u32
     ensures { λ r. ⌜ r ≡ pace block kind ⌝ }

@@ -1,6 +1,7 @@
 -- The blocks of an image are what it gives each byte, and there are as many as its header says.
 -- Assumes nothing.
 use mathlib.Core.Path.{_≡_, refl, sym, ap, ap₂, _∙_}
+use mathlib.Core.Bool.{true}
 use mathlib.Core.Option.{Option, none, some}
 use mathlib.Core.List.{List, [], _∷_, _++_, map, append-assoc}
 use Prim.Native.Nat.{ℕ, zero, suc, _+_, _*_, _%_, _≤_}
@@ -12,7 +13,7 @@ use Rattle.fields_rules.specs.Number.{Bytes}
 use Rattle.sparse_rules.specs.declared.Kind.{Kind}
 use Rattle.sparse_rules.specs.declared.Kind.the-variants.{Raw, Fill, DontCare, Unknown}
 use Rattle.sparse_rules.specs.declared.Chunk.{Chunk}
-use Rattle.sparse_rules.specs.Header.{blockSize}
+use Rattle.sparse_rules.specs.Header.{blockSize, blockSizeRight}
 use Rattle.sparse_rules.specs.Cells.{tab, rawByte, fillByte, cellsBy, cells}
 use Rattle.sparse_rules.specs.Judge.{judged, effect}
 use Rattle.sparse_rules.proofs.Counting.{blocksIn, three-parts}
@@ -20,9 +21,12 @@ use Rattle.sparse_rules.proofs.Cells.{length-tab, tab-same, tab-append, cells-n
 use Rattle.sparse_rules.proofs.Facts.{accepted-facts}
 use Rattle.sparse_rules.proofs.Image.{chunk-cells, raw-cells, fill-cells, effect-accepted}
 use Rattle.sparse_rules.proofs.Theorems.{sums, judged-more}
-use Rattle.sparse_write_rules.specs.Blocks.{Block, cellsOfBlock, blockCells, Fits, AllFit}
+use Rattle.sparse_write_rules.specs.Blocks.{Block, cellsOfBlock, blockCells, Fits, AllFit, Whole}
+use Rattle.sparse_write_rules.specs.Encode.{encode}
 use Rattle.sparse_write_rules.proofs.KindCells.{some-append, raw-split}
-use Rattle.sparse_write_rules.proofs.ImageBytes.{bytes-tab}
+use Rattle.sparse_write_rules.proofs.FlatImage.{block-right}
+use Rattle.sparse_write_rules.proofs.ImageBytes.{bytes-tab, encode-bytes}
+use Rattle.sparse_write_rules.proofs.Encoded.{size-read, total-read, reads}
 use Rattle.sparse_write_rules.proofs.Theorems.{blocks-injective}
 use Rattle.sparse_blocks_rules.specs.Blocks.{blockFrom, pace, stretch, blocksOf, needed, found, blocks}
 use Rattle.sparse_blocks_rules.specs.Pairs.{Accepted}
@@ -71,7 +75,8 @@ cells-zero s Fill at = refl
 cells-zero s DontCare at = refl
 cells-zero s Unknown at = refl
 
-cells-stretch : (s : List ℕ) (b : ℕ) → b % 4 ≡ 0 → (k : Kind) (n at : ℕ) → cellsBy s k at (n * b) ≡ blockCells b (stretch s b k n at)
+-- the cells of some blocks of a kind are those of their bytes
+pub cells-stretch : (s : List ℕ) (b : ℕ) → b % 4 ≡ 0 → (k : Kind) (n at : ℕ) → cellsBy s k at (n * b) ≡ blockCells b (stretch s b k n at)
 unfolding stretch blockCells
 cells-stretch s b fours k zero at = let z : 0 * b ≡ 0 = omega arith in rw z (cells-zero s k at)
 cells-stretch s b fours k (suc n) at =
@@ -152,3 +157,29 @@ module _ {s : List ℕ} (a : Accepted s) where
             let least = accepted-facts s (length s) (needed s) (a .ks) judges .header .block-least in
             blocks-injective (blockSize s) (omega arith) xs (blocks s) f (rw blocks-are (fit-blocksOf s small (blockSize s) (a .ks))) (sym e ∙ effect-blocks room h);
       }
+
+-- its block size is right
+pub right-size : {s : List ℕ} → Accepted s → blockSizeRight (blockSize s) ≡ true
+right-size {s} a =
+    let f = accepted-facts s (length s) (needed s) (a .ks) (judges a) .header in
+    block-right (blockSize s) (f .block-least) (f .block-most) (f .block-fours)
+
+-- ---- an encoded image
+
+module _ (b : ℕ) (xs : List Block) (w : Whole b xs) where
+  -- it needs the room of its blocks
+  pub encoded-room : needed (encode b xs) ≡ length xs * b
+  encoded-room = ap₂ (λ (m n : ℕ). m * n) (total-read b xs w) (size-read b xs w)
+
+  -- it is accepted
+  pub encoded-accepted : Accepted (encode b xs)
+  unfolding found
+  encoded-accepted = let r = reads b xs w (needed (encode b xs)) (omega (arith, encoded-room)) in record { ks = r .ks; is = r .found }
+
+  -- and its blocks are those that it is encoded from
+  pub encoded-blocks : blocks (encode b xs) ≡ xs
+  encoded-blocks =
+      let fit : AllFit (blockSize (encode b xs)) xs = rw (size-read b xs w) (w .fit) in
+      sym
+      (gives encoded-accepted .only (encode-bytes b xs (w .fit)) (needed (encode b xs)) (omega arith) xs fit
+      (reads b xs w (needed (encode b xs)) (omega (arith, encoded-room)) .gives ∙ ap (λ (n : ℕ). blockCells n xs) (sym (size-read b xs w))))

@@ -127,6 +127,10 @@ module _ (s t : List ℕ) (tests : List (Bool × ℕ)) (m : ℕ) where
       let u = unless-accepted (first tests) 0 (accepted m) n (r .3) in
       (matches s t (record { ks = r .0 .0; is = r .0 .1 }) (record { ks = r .1 .0; is = r .1 .1 }) (r .2), accepted-same (sym (u .1)))
 
+-- images that are answered with a number match
+pub found-matched : (s t : List ℕ) {n : ℕ} → accepted n ≡ pairAnswer s t [] 0 → Matched s t
+found-matched s t {n} e = pair-accepted s t [] 0 n (sym e) .0
+
 -- which refusal of two images comes
 pub ordered : Ordered
 ordered =

@@ -6,51 +6,58 @@ use mathlib.Core.List.{List, [], _∷_, _++_}
 use Prim.Native.Nat.{ℕ, zero, suc, _+_, _-_, _*_, _≤_, _<_}
 use native.Mathlib.Nat.{not-suc-le-zero, le-of-suc-le-suc, suc-mul, zero-lt-suc}
 use native.Mathlib.Omega.{arith}
-use lib.ListN.{length, drop, getD, replicate, length-append, length-drop}
+use lib.ListN.{length, take, drop, getD, replicate, length-append, length-drop, take-append-drop}
+use lib.Seq.{take-append-le}
 use Rattle.sparse_rules.specs.declared.Kind.{Kind}
 use Rattle.sparse_rules.specs.declared.Header.{Header}
 use Rattle.sparse_write_rules.specs.Blocks.{Block}
 use Rattle.sparse_blocks_rules.specs.declared.Reader.{Reader}
-use Rattle.sparse_blocks_rules.specs.Blocks.{blockFrom, pace, stretch, blocksOf, blocks}
+use Rattle.sparse_blocks_rules.specs.Blocks.{blockFrom, pace, stretch, blocksOf, needed, blocks}
 use Rattle.sparse_blocks_rules.specs.Reading.{passedBy, opened}
 use Rattle.sparse_blocks_rules.specs.Pairs.{each, Matched}
-use Rattle.sparse_blocks_rules.specs.Beside.{remaining, Reads, Beside, InFront}
-use Rattle.sparse_blocks_rules.proofs.Stretches.{length-stretch}
+use Rattle.sparse_blocks_rules.specs.Beside.{remaining, ahead, Reads, Beside, InFront}
+use Rattle.sparse_blocks_rules.proofs.Stretches.{length-stretch, stretch-take}
 use Rattle.sparse_blocks_rules.proofs.Passing.{rest-is, passes, opens}
 use Rattle.sparse_blocks_rules.proofs.Giving.{gives}
 
 -- ---- pairs of blocks
 
 -- there are as many pairs as blocks
-pub length-each : (f : Block → Block → ℕ) (xs ys : List Block) → length ys ≡ length xs → length (each f xs ys) ≡ length xs
+pub length-each : {A : Type 0} (f : Block → Block → A) (xs ys : List Block) → length ys ≡ length xs → length (each f xs ys) ≡ length xs
 unfolding each
 length-each f [] ys e = refl
 length-each f (x ∷ xs) [] e = absurd (omega arith)
 length-each f (x ∷ xs) (y ∷ ys) e = ap suc (length-each f xs ys (omega arith))
 
 -- the pair at a place
-pub each-at : (f : Block → Block → ℕ) (xs ys : List Block) (k : ℕ) → k < length xs → length ys ≡ length xs
-    → getD (each f xs ys) k 0 ≡ f (getD xs k none) (getD ys k none)
+pub each-at : {A : Type 0} (f : Block → Block → A) (xs ys : List Block) (k : ℕ) (d : A) → k < length xs → length ys ≡ length xs
+    → getD (each f xs ys) k d ≡ f (getD xs k none) (getD ys k none)
 unfolding each
-each-at f [] ys k h e = absurd (not-suc-le-zero h)
-each-at f (x ∷ xs) [] k h e = absurd (omega arith)
-each-at f (x ∷ xs) (y ∷ ys) zero h e = refl
-each-at f (x ∷ xs) (y ∷ ys) (suc k) h e = each-at f xs ys k (le-of-suc-le-suc h) (omega arith)
+each-at f [] ys k d h e = absurd (not-suc-le-zero h)
+each-at f (x ∷ xs) [] k d h e = absurd (omega arith)
+each-at f (x ∷ xs) (y ∷ ys) zero d h e = refl
+each-at f (x ∷ xs) (y ∷ ys) (suc k) d h e = each-at f xs ys k d (le-of-suc-le-suc h) (omega arith)
 
-no-pairs : (f : Block → Block → ℕ) (ys : List Block) → each f [] ys ≡ []
+no-pairs : {A : Type 0} (f : Block → Block → A) (ys : List Block) → each f [] ys ≡ []
 unfolding each
 no-pairs f ys = refl
 
--- the first n blocks of two stretches, to all of which the rule gives one kind
-each-stretch : (f : Block → Block → ℕ) (s t : List ℕ) (b c : ℕ) (k l : Kind) (kind n m o at to : ℕ) (xs ys : List Block) → n ≤ m → n ≤ o
+-- the pairs of the first blocks stand before those of the others
+each-append : {A : Type 0} (f : Block → Block → A) (xs ys us vs : List Block) → length ys ≡ length xs
+    → each f (xs ++ us) (ys ++ vs) ≡ each f xs ys ++ each f us vs
+unfolding each
+each-append f [] [] us vs e = refl
+each-append f [] (y ∷ ys) us vs e = absurd (omega arith)
+each-append f (x ∷ xs) [] us vs e = absurd (omega arith)
+each-append {A} f (x ∷ xs) (y ∷ ys) us vs e = ap (λ (r : List A). f x y ∷ r) (each-append f xs ys us vs (omega arith))
+
+-- n blocks of two chunks, to each pair of which the rule gives one kind
+each-stretch : {A : Type 0} (f : Block → Block → A) (s t : List ℕ) (b c : ℕ) (k l : Kind) (kind : A) (n at to : ℕ)
     → ((j : ℕ) → j < n → f (blockFrom s b k (at + j * pace b k)) (blockFrom t c l (to + j * pace c l)) ≡ kind)
-    → each f (stretch s b k m at ++ xs) (stretch t c l o to ++ ys)
-    ≡ replicate n kind ++ each f (drop n (stretch s b k m at ++ xs)) (drop n (stretch t c l o to ++ ys))
+    → each f (stretch s b k n at) (stretch t c l n to) ≡ replicate n kind
 unfolding stretch each
-each-stretch f s t b c k l kind zero m o at to xs ys g h alike = refl
-each-stretch f s t b c k l kind (suc n) zero o at to xs ys g h alike = absurd (not-suc-le-zero g)
-each-stretch f s t b c k l kind (suc n) (suc m) zero at to xs ys g h alike = absurd (not-suc-le-zero h)
-each-stretch f s t b c k l kind (suc n) (suc m) (suc o) at to xs ys g h alike =
+each-stretch f s t b c k l kind zero at to alike = refl
+each-stretch {A} f s t b c k l kind (suc n) at to alike =
     let p : at + 0 * pace b k ≡ at = omega arith in
     let q : to + 0 * pace c l ≡ to = omega arith in
     let here : f (blockFrom s b k at) (blockFrom t c l to) ≡ kind = rw (p, q) at (alike 0 (zero-lt-suc n)) in
@@ -59,8 +66,7 @@ each-stretch f s t b c k l kind (suc n) (suc m) (suc o) at to xs ys g h alike =
     let u : at + pace b k + j * pace b k ≡ at + suc j * pace b k = omega (arith, suc-mul j (pace b k)) in
     let v : to + pace c l + j * pace c l ≡ to + suc j * pace c l = omega (arith, suc-mul j (pace c l)) in
     rw (u, v) (alike (suc j) (omega arith)) in
-    ap₂ (λ (x : ℕ) (r : List ℕ). x ∷ r) here
-    (each-stretch f s t b c k l kind n m o (at + pace b k) (to + pace c l) xs ys (le-of-suc-le-suc g) (le-of-suc-le-suc h) on)
+    ap₂ (λ (x : A) (r : List A). x ∷ r) here (each-stretch f s t b c k l kind n (at + pace b k) (to + pace c l) on)
 
 -- ---- two readers
 
@@ -71,10 +77,24 @@ rest-least {s} {r} w =
     let e = ap length (rest-is w) ∙ length-append xs (blocksOf s (r .header .block) (w .ks)) in
     omega (arith, e, length-stretch s (r .header .block) (r .chunk .kind) (r .chunk .blocks) (r .chunk .body))
 
--- they are taken of both
-pub record Taken (f : Block → Block → ℕ) (s t : List ℕ) (a b : Reader) (kind n : ℕ) (a′ b′ : Reader) : Type 0 where
+-- the first blocks of the chunk that is being read come before what is left after them
+rest-ahead : {s : List ℕ} {r : Reader} → Reads s r → (n : ℕ) → n ≤ r .chunk .blocks → remaining s r ≡ ahead s r n ++ drop n (remaining s r)
+rest-ahead {s} {r} w n h =
+    let xs : List Block = ahead s r (r .chunk .blocks) in
+    let e : take n (remaining s r) ≡ ahead s r n =
+    ap (take n) (rest-is w) ∙ take-append-le n xs (blocksOf s (r .header .block) (w .ks)) (omega (arith, length-stretch s (r .header .block) (r .chunk .kind) (r .chunk .blocks) (r .chunk .body)))
+    ∙ stretch-take s (r .header .block) (r .chunk .kind) n (r .chunk .blocks) (r .chunk .body) h in
+    sym (take-append-drop n (remaining s r)) ∙ ap (λ (l : List Block). l ++ drop n (remaining s r)) e
+
+-- two readers past n blocks more
+pub record PassedBoth (s t : List ℕ) (a b : Reader) (n : ℕ) (a′ b′ : Reader) : Type 0 where
   pub after : Beside s t a′ b′
+  pub same : a′ .header ≡ a .header
   pub count : length (remaining s a) ≡ n + length (remaining s a′)
+
+-- and a rule gave one kind to each of the pairs
+pub record Taken {A : Type 0} (f : Block → Block → A) (s t : List ℕ) (a b : Reader) (kind : A) (n : ℕ) (a′ b′ : Reader) : Type 0 where
+  pub past : PassedBoth s t a b n a′ b′
   pub kinds : each f (remaining s a) (remaining t b) ≡ replicate n kind ++ each f (remaining s a′) (remaining t b′)
 
 module _ {s t : List ℕ} {a b : Reader} (w : Beside s t a b) where
@@ -87,38 +107,62 @@ module _ {s t : List ℕ} {a b : Reader} (w : Beside s t a b) where
       go (suc n) e = omega arith
 
   -- where it has none, no pair is left
-  pub none-left : (f : Block → Block → ℕ) → a .chunk .blocks ≡ 0 → each f (remaining s a) (remaining t b) ≡ []
+  pub none-left : {A : Type 0} (f : Block → Block → A) → a .chunk .blocks ≡ 0 → each f (remaining s a) (remaining t b) ≡ []
   none-left f e = ap (λ (xs : List Block). each f xs (remaining t b)) (w .first .settled e) ∙ no-pairs f (remaining t b)
 
+  module _ (n : ℕ) (g : n ≤ a .chunk .blocks) where
+    -- blocks that both chunks have are passed
+    pub passes-both : PassedBoth s t a b n (passedBy s a n) (passedBy t b n)
+    passes-both =
+        let u = passes s (a .header) (a .left) (a .cursor) (a .chunk) n (w .first .reads) in
+        let v = passes t (b .header) (b .left) (b .cursor) (b .chunk) n (w .second .reads) in
+        let la = ap length (u .rest) ∙ length-drop n (remaining s a) in
+        let lb = ap length (v .rest) ∙ length-drop n (remaining t b) in
+        record {
+          after =
+              record {
+                first = u .ready;
+                second = v .ready;
+                size = ap (λ (x : Header). x .block) (u .same) ∙ w .size ∙ ap (λ (x : Header). x .block) (sym (v .same));
+                long = omega (arith, la, lb, w .long);
+              };
+          same = u .same;
+          count = omega (arith, la, rest-least (w .first .reads));
+        }
+
+    -- their pairs come before those that are left
+    pub pairs-ahead : {A : Type 0} (f : Block → Block → A) → n ≤ b .chunk .blocks
+        → each f (remaining s a) (remaining t b) ≡ each f (ahead s a n) (ahead t b n) ++ each f (remaining s (passedBy s a n)) (remaining t (passedBy t b n))
+    pairs-ahead f h =
+        let u = passes s (a .header) (a .left) (a .cursor) (a .chunk) n (w .first .reads) in
+        let v = passes t (b .header) (b .left) (b .cursor) (b .chunk) n (w .second .reads) in
+        ap₂ (each f) (rest-ahead (w .first .reads) n g ∙ ap (λ (r : List Block). ahead s a n ++ r) (sym (u .rest)))
+        (rest-ahead (w .second .reads) n h ∙ ap (λ (r : List Block). ahead t b n ++ r) (sym (v .rest)))
+        ∙ each-append f (ahead s a n) (ahead t b n) _ _
+        (length-stretch t (b .header .block) (b .chunk .kind) n (b .chunk .body) ∙ sym (length-stretch s (a .header .block) (a .chunk .kind) n (a .chunk .body)))
+
   -- blocks in front are taken
-  pub takes : (f : Block → Block → ℕ) (kind n : ℕ) → InFront f s t a b kind n → Taken f s t a b kind n (passedBy s a n) (passedBy t b n)
-  takes f kind n p =
-      let u = passes s (a .header) (a .left) (a .cursor) (a .chunk) n (w .first .reads) in
-      let v = passes t (b .header) (b .left) (b .cursor) (b .chunk) n (w .second .reads) in
-      let la = ap length (u .rest) ∙ length-drop n (remaining s a) in
-      let lb = ap length (v .rest) ∙ length-drop n (remaining t b) in
+  pub takes : {A : Type 0} (f : Block → Block → A) (kind : A) (n : ℕ) → InFront f s t a b kind n → Taken f s t a b kind n (passedBy s a n) (passedBy t b n)
+  takes {A} f kind n p =
       record {
-        after =
-            record {
-              first = u .ready;
-              second = v .ready;
-              size = ap (λ (x : Header). x .block) (u .same) ∙ w .size ∙ ap (λ (x : Header). x .block) (sym (v .same));
-              long = omega (arith, la, lb, w .long);
-            };
-        count = omega (arith, la, rest-least (w .first .reads), p .first);
+        past = passes-both n (p .first);
         kinds =
-            ap₂ (each f) (rest-is (w .first .reads)) (rest-is (w .second .reads))
-            ∙ each-stretch f s t (a .header .block) (b .header .block) (a .chunk .kind) (b .chunk .kind) kind n (a .chunk .blocks) (b .chunk .blocks)
-            (a .chunk .body) (b .chunk .body) (blocksOf s (a .header .block) (w .first .reads .ks)) (blocksOf t (b .header .block) (w .second .reads .ks))
-            (p .first) (p .second) (p .alike)
-            ∙ ap (λ (r : List ℕ). replicate n kind ++ r)
-            (ap₂ (λ (xs ys : List Block). each f (drop n xs) (drop n ys)) (sym (rest-is (w .first .reads))) (sym (rest-is (w .second .reads)))
-            ∙ ap₂ (each f) (sym (u .rest)) (sym (v .rest)));
+            pairs-ahead n (p .first) f (p .second)
+            ∙ ap (λ (r : List A). r ++ each f (remaining s (passedBy s a n)) (remaining t (passedBy t b n)))
+            (each-stretch f s t (a .header .block) (b .header .block) (a .chunk .kind) (b .chunk .kind) kind n (a .chunk .body) (b .chunk .body) (p .alike));
       }
 
--- ---- the start
+-- ---- two images that match
 
 module _ {s t : List ℕ} (m : Matched s t) where
+  -- they have as many blocks
+  pub as-many : length (blocks t) ≡ length (blocks s)
+  as-many = gives (m .second) .many ∙ sym (m .total) ∙ sym (gives (m .first) .many)
+
+  -- and need as much room
+  pub same-room : needed t ≡ needed s
+  same-room = ap₂ (λ (x y : ℕ). x * y) (sym (m .total)) (sym (m .block))
+
   -- two images that match are opened side by side
   pub opens-beside : Beside s t (opened s) (opened t)
   opens-beside =
@@ -128,10 +172,9 @@ module _ {s t : List ℕ} (m : Matched s t) where
         first = p .0;
         second = q .0;
         size = ap (λ (x : Header). x .block) (p .2) ∙ m .block ∙ ap (λ (x : Header). x .block) (sym (q .2));
-        long =
-            ap length (q .1) ∙ gives (m .second) .many ∙ sym (m .total) ∙ sym (ap length (p .1) ∙ gives (m .first) .many);
+        long = ap length (q .1) ∙ as-many ∙ sym (ap length (p .1));
       }
 
   -- with all their blocks
-  pub opens-all : (f : Block → Block → ℕ) → each f (remaining s (opened s)) (remaining t (opened t)) ≡ each f (blocks s) (blocks t)
+  pub opens-all : {A : Type 0} (f : Block → Block → A) → each f (remaining s (opened s)) (remaining t (opened t)) ≡ each f (blocks s) (blocks t)
   opens-all f = ap₂ (each f) (opens (m .first) .1) (opens (m .second) .1)

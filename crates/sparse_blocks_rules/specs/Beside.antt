@@ -18,6 +18,10 @@ remaining s r =
     stretch s (r .header .block) (r .chunk .kind) (r .chunk .blocks) (r .chunk .body)
     ++ blocksFound s (r .header .block) (walk s (length s) (r .header) (r .left) (r .cursor))
 
+-- the first n blocks of the chunk that is being read
+abbrev pub ahead : List ℕ → Reader → ℕ → List Block
+ahead s r n = stretch s (r .header .block) (r .chunk .kind) n (r .chunk .body)
+
 -- a reader of an image whose structure holds
 pub record Reads (s : List ℕ) (r : Reader) : Type 0 where
   -- the chunks after the one that is being read
@@ -44,7 +48,7 @@ pub record Beside (s t : List ℕ) (a b : Reader) : Type 0 where
   pub long : length (remaining t b) ≡ length (remaining s a)
 
 -- the first n blocks in both chunks, to each pair of which a rule gives this kind
-pub record InFront (f : Block → Block → ℕ) (s t : List ℕ) (a b : Reader) (kind n : ℕ) : Type 0 where
+pub record InFront {A : Type 0} (f : Block → Block → A) (s t : List ℕ) (a b : Reader) (kind : A) (n : ℕ) : Type 0 where
   -- there are some
   pub some : 0 < n
   -- both chunks have them

@@ -17,7 +17,7 @@ use Rattle.sparse_blocks_rules.specs.declared.Paired.the-variants as pai
 use Rattle.sparse_blocks_rules.specs.Blocks.{found}
 
 -- what a rule gives for each pair of blocks, in order
-unfoldable pub each : (Block → Block → ℕ) → List Block → List Block → List ℕ
+unfoldable pub each : {A : Type 0} → (Block → Block → A) → List Block → List Block → List A
 each f [] ys = []
 each f (x ∷ xs) [] = []
 each f (x ∷ xs) (y ∷ ys) = f x y ∷ each f xs ys

@@ -1,11 +1,12 @@
 // The first blocks that two images have left, as many as have one kind of change and can be told at once.
 ghost use mathlib.Core.Path.{_≡_};
 ghost use mathlib.Core.Bool.{true, cond};
-ghost use Prim.Native.Nat.{min, _<_};
+ghost use Prim.Native.Nat.{_<_};
 ghost use Rattle.sparse_rules.specs.Counts.{writes};
 ghost use Rattle.sparse_blocks_rules.specs.Beside.{Beside, InFront};
 ghost use Rattle.sparse_diff_rules.specs.Diff.{change};
 use sparse_blocks::is_raw;
+use sparse_blocks::least;
 use sparse_blocks::same_block;
 use sparse_blocks::writes;
 use sparse_blocks_rules::Reader;
@@ -14,13 +15,6 @@ use sparse_blocks_rules::Reader;
 pub(crate) struct Change {
     pub(crate) kind: u32,
     pub(crate) blocks: u32,
-}
-
-// The lesser of two counts of blocks.
-fn least(m: u32, n: u32) -> u32
-    ensures { λ r. ⌜ r ≡ min m n ⌝ }
-{
-    if m <= n { m } else { n }
 }
 
 // The kind of blocks that both images write.

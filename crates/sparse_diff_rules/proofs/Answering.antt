@@ -29,10 +29,6 @@ room-enough {s} {t} {h} {room} m e p =
     let total : h .total ≡ totalBlocks s = ap (λ (x : Header). x .total) e in
     sym (le-leb (3 * length (diff s t)) room (omega (arith, runs-few m)))
 
--- images that are answered with a number match
-pub found-matched : (s t : List ℕ) {n : ℕ} → accepted n ≡ pairAnswer s t [] 0 → Matched s t
-found-matched s t {n} e = pair-accepted s t [] 0 n (sym e) .0
-
 module _ (s t space : List ℕ) where
   -- a refusal of the two images
   pub answers-refusal : {n place : ℕ} → refused n place ≡ pairAnswer s t [] 0 → (refused n place ≡ answer s t (length space)) × (space ≡ listed s t space)

@@ -137,19 +137,19 @@ module _ {s t space₀ space : List ℕ} {a b : Reader} {g : Growing} (w : Lists
   module _ {kind n : ℕ} (p : InFront change s t a b kind n) where
     -- fewer blocks are left
     pub lists-less : length (remaining s (passedBy s a n)) < length (remaining s a)
-    lists-less = omega (arith, takes (w .beside) change kind n p .count, p .some)
+    lists-less = omega (arith, takes (w .beside) change kind n p .past .count, p .some)
 
     -- no sum passes the total
     pub lists-fits : g .first + g .blocks + n ≤ totalBlocks s
-    lists-fits = omega (arith, w .sum, takes (w .beside) change kind n p .count)
+    lists-fits = omega (arith, w .sum, takes (w .beside) change kind n p .past .count)
 
     -- some blocks more
     pub lists-on : {space′ : List ℕ} {g′ : Growing} → Grown space g kind n space′ g′ → Lists s t space₀ space′ (passedBy s a n) (passedBy t b n) g′
     lists-on v =
         let u = takes (w .beside) change kind n p in
         record {
-          beside = u .after;
-          sum = omega (arith, v .blocks, u .count, w .sum);
+          beside = u .past .after;
+          sum = omega (arith, v .blocks, u .past .count, w .sum);
           few = w .few;
           puts = sym (v .puts (left s t (passedBy s a n) (passedBy t b n))) ∙ ap (spaceWith space g) (sym (u .kinds)) ∙ w .puts;
           counts = sym (v .counts (left s t (passedBy s a n) (passedBy t b n))) ∙ ap (countWith g) (sym (u .kinds)) ∙ w .counts;

@@ -20,7 +20,7 @@ use Rattle.sparse_blocks_rules.specs.Same.{alike}
 use Rattle.sparse_blocks_rules.specs.Pairs.{pairAnswer, pairTests}
 use Rattle.sparse_blocks_rules.proofs.Comparing.{tells-bytes}
 use Rattle.sparse_blocks_rules.proofs.Giving.{gives}
-use Rattle.sparse_blocks_rules.proofs.SideBySide.{length-each, each-at}
+use Rattle.sparse_blocks_rules.proofs.SideBySide.{length-each, each-at, as-many}
 use Rattle.sparse_blocks_rules.proofs.Pairing.{pair-refused, pair-accepted, pair-passed, leaves}
 use Rattle.sparse_diff_rules.specs.Diff.{change, changes, diff, numbers, spaceTests, answer, listed}
 use Rattle.sparse_diff_rules.specs.Theorems.{Listings, Kinds, ThreeNumbers, Answered, Kept, Refusals, RefusalNumbers}
@@ -33,12 +33,11 @@ use Rattle.sparse_diff_rules.proofs.Answering.{runs-few, answers-short,
 pub listings : Listings
 unfolding diff changes
 listings s t m =
-    let long : length (blocks t) ≡ length (blocks s) = gives (m .second) .many ∙ sym (m .total) ∙ sym (gives (m .first) .many) in
     record {
       covers = spread-runs eqb tells-numbers (changes s t);
-      every = length-each change (blocks s) (blocks t) long ∙ gives (m .first) .many;
+      every = length-each change (blocks s) (blocks t) (as-many m) ∙ gives (m .first) .many;
       longest = longest eqb tells-numbers (changes s t);
-      kind = λ k h. each-at change (blocks s) (blocks t) k (omega (arith, gives (m .first) .many)) long;
+      kind = λ k h. each-at change (blocks s) (blocks t) k 0 (omega (arith, gives (m .first) .many)) (as-many m);
       first = gives (m .first);
       second = gives (m .second);
     }

@@ -179,6 +179,11 @@ unfolding zeroed
 zeroed-append [] ds = refl
 zeroed-append (c ∷ cs) ds = ap (λ (r : List ℕ). Option·getD c 0 ∷ r) (zeroed-append cs ds)
 
+-- there are as many bytes as cells
+pub length-zeroed : (cs : List (Option ℕ)) → length (zeroed cs) ≡ length cs
+unfolding zeroed
+length-zeroed cs = length-map cs _
+
 -- stored bytes stay
 pub zeroed-some : (l : List ℕ) → zeroed (map some l) ≡ l
 unfolding zeroed

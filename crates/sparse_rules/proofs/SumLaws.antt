@@ -12,11 +12,12 @@ use Rattle.fields_rules.specs.Number.{numberAt, bytes}
 use Rattle.crc32_rules.specs.Crc.{crcFrom, allOnes}
 use Rattle.crc32_rules.specs.Power.{repeated}
 use Rattle.crc32_rules.proofs.Laws.{crc-nil, crc-append, crc-finish}
-use Rattle.sparse_rules.specs.declared.Kind.the-variants.{Raw, Fill}
+use Rattle.sparse_rules.specs.declared.Kind.{Kind}
+use Rattle.sparse_rules.specs.declared.Kind.the-variants.{Raw, Fill, DontCare, Unknown}
 use Rattle.sparse_rules.specs.declared.Chunk.{Chunk}
 use Rattle.sparse_rules.specs.Cells.{cellsOf, cells, zeroed, checksumOf}
 use Rattle.sparse_rules.specs.Counts.{writes}
-use Rattle.sparse_rules.specs.Facts.{Summable}
+use Rattle.sparse_rules.specs.Facts.{dataBytes, Summable}
 use Rattle.sparse_rules.proofs.Cells.{cells-nil, cells-cons, zeroed-append, zeroed-raw, zeroed-fill, zeroed-kept}
 
 -- blocks of at most 65,536 bytes, counted in 32 bits, are at most 2^48 bytes
@@ -57,6 +58,16 @@ module _ (state : ℕ) (s : List ℕ) (b : ℕ) (k : Chunk) (w : Summable s b k)
   pub sum-kept : writes (k .kind) ≡ false → crcFrom state (replicate (k .blocks * b) 0) ≡ crcFrom state (zeroed (cellsOf s b k))
   unfolding cellsOf
   sum-kept e = ap (crcFrom state) (sym (zeroed-kept s (k .kind) (k .body) (k .blocks * b) e))
+
+-- the first blocks of a chunk, as one
+pub summable-first : (s : List ℕ) (b : ℕ) (k : Chunk) (n : ℕ) → Summable s b k → n ≤ k .blocks → Summable s b (record { kind = k .kind; blocks = n; body = k .body })
+summable-first s b k n w h = record { most = w .most; fours = w .fours; inside = go (k .kind) (w .inside) }
+  where
+    go : (kind : Kind) → k .body + dataBytes kind (k .blocks) b ≤ length s → k .body + dataBytes kind n b ≤ length s
+    go Raw l = omega (arith, mul-le-mul-right b h)
+    go Fill l = l
+    go DontCare l = l
+    go Unknown l = l
 
 -- ---- chunk after chunk
 

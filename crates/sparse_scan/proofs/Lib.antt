@@ -1,3 +1,2 @@
-pub mod Numbered
 pub mod Whole
 pub mod Scanning

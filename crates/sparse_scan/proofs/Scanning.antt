@@ -12,7 +12,7 @@ use Rattle.sparse_write_rules.specs.Kinds.{BlockKind, kept, sameKind, allEqual}
 use Rattle.sparse_write_rules.specs.Runs.{inFront, runs}
 use Rattle.sparse_write_rules.proofs.KindSteps.{equal-none, equal-next, equal-differs}
 use Rattle.sparse_write_rules.proofs.Runs.{split-blocks, tells-kinds, of, apart, differ, front-same, front-other}
-use Rattle.sparse_scan.specs.Numbered.{kindNumbered}
+use Rattle.sparse_write_rules.specs.Numbered.{kindNumbered}
 use Rattle.sparse_scan.specs.Scan.{kindsAt, runsAt, firstKind, leading, following, runBlocks, afterRun}
 
 -- ---- the words of a block
@@ -187,6 +187,11 @@ run-some f b kind (suc n) at h l g =
     let one : suc n - 1 ≡ n = omega arith in
     let m : _ ≡ leading f b kind n (at + b) = rw one at l in
     (omega arith, rw one at g, omega (arith, run-on f b kind n (at + b) .fits))
+
+-- where there is one, the first kind is its own
+pub first-of : (f : ℕ → BlockKind) (n at : ℕ) → 0 < n → firstKind f n at ≡ f at
+first-of f zero at h = absurd (omega arith)
+first-of f (suc n) at h = refl
 
 -- what follows those of a kind that the first block is not is the first block
 pub first-follows : (f : ℕ → BlockKind) (b : ℕ) (kind : BlockKind) (n at : ℕ) {k : BlockKind} → 0 < n → (f at ≡ kind → ⊥) → k ≡ following f b kind n at → k ≡ firstKind f n at

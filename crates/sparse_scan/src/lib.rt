@@ -5,7 +5,7 @@ ghost use mathlib.Core.Path.{_≡_};
 ghost use Prim.Native.Nat.{_+_, _*_, _%_, _≤_};
 ghost use lib.ListN.{length};
 ghost use Rattle.sparse_write_rules.specs.Kinds.{storedKind};
-ghost use Rattle.sparse_scan.specs.Numbered.{kindNumbered};
+ghost use Rattle.sparse_write_rules.specs.Numbered.{kindNumbered};
 ghost use Rattle.sparse_scan.specs.Scan.{wholeBlocks, firstKind, leading, following, runBlocks, afterRun};
 
 // So many blocks in front are alike, and the one after them is of the kind `next`, 0 where none is left.

@@ -3,17 +3,19 @@
 use mathlib.Core.Path.{_≡_, refl, sym, ap, _∙_}
 use mathlib.Core.Option.{Option}
 use mathlib.Core.List.{List, []}
-use Prim.Native.Nat.{ℕ, _*_, min, _≤_}
+use Prim.Native.Nat.{ℕ, _*_, min, _≤_, _<_}
 use native.Mathlib.Nat.{le-of-lt, min-eq-left, min-eq-right, mul-le-mul-right}
+use native.Mathlib.Omega.{arith}
 use lib.Dec.{leb}
 use borrow.Author.Tests.{leb-true, leb-false}
 use mathlib.Core.Bool.{Bool, true, false}
-use lib.ListN.{length}
+use lib.ListN.{length, replicate, length-replicate}
 use Rattle.rules.specs.Answer.{accepted, refused, HasNumber}
 use Rattle.rules.proofs.Answer.{onward-number}
-use Rattle.sparse_rules.proofs.Theorems.{refusal-numbers}
+use Rattle.sparse_rules.proofs.Theorems.{sums, refusal-numbers}
 use Rattle.sparse_rules.specs.declared.Chunk.{Chunk}
-use Rattle.sparse_rules.specs.Header.{blockSize}
+use Rattle.sparse_rules.specs.Header.{blockSize, totalBlocks}
+use Rattle.sparse_rules.specs.Walk.{Finding}
 use Rattle.sparse_rules.specs.Cells.{count, cells}
 use Rattle.sparse_rules.specs.Counts.{written}
 use Rattle.sparse_rules.specs.Judge.{judged, effect}
@@ -21,7 +23,7 @@ use Rattle.sparse_rules.proofs.Cells.{count-cells}
 use Rattle.sparse_store_rules.specs.Store.{over, torn, store, cutStore, storeUpTo}
 use Rattle.sparse_store_rules.specs.Answers.{cutAnswerFor, cutAnswer}
 use Rattle.sparse_rules.proofs.Image.{effect-accepted, effect-refused}
-use Rattle.sparse_store_rules.proofs.Over.{length-over, over-twice}
+use Rattle.sparse_store_rules.proofs.Over.{length-over, over-twice, cells-told}
 use Rattle.sparse_store_rules.proofs.Torn.{torn-all, count-torn}
 
 -- "Refusals store nothing"
@@ -101,3 +103,20 @@ pub cut-numbers : (limit : ℕ) (s : List ℕ) (room : ℕ) → HasNumber (cutAn
 unfolding cutAnswer cutAnswerFor
 cut-numbers limit s room =
     onward-number (judged s (length s) room) (λ ks. accepted (min limit (written ks))) (refusal-numbers .images s (length s) room) (λ ks. tt)
+
+-- an image whose blocks have no room is refused, and so stores nothing
+pub no-room-stores-nothing : (s p : List ℕ) → length p < totalBlocks s * blockSize s → store s p ≡ p
+no-room-stores-nothing s p h = go (judged s (length s) (length p)) refl
+  where
+    go : (f : Finding) → judged s (length s) (length p) ≡ f → store s p ≡ p
+    go (accepted ks) e = absurd (omega (arith, sums s (length s) (length p) ks e .fits))
+    go (refused n place) e = refused-stores-nothing s p n place e
+
+-- images that give every one of n bytes a cell, and leave the same on every partition of n bytes, give the same
+pub effects-told : (i j : List ℕ) (n : ℕ) → length (effect i n) ≡ n → length (effect j n) ≡ n
+    → ((p : List ℕ) → length p ≡ n → store i p ≡ store j p) → effect i n ≡ effect j n
+unfolding store
+effects-told i j n k l h =
+    let on : (v : ℕ) → over (effect i n) (replicate n v) ≡ over (effect j n) (replicate n v) =
+    λ v. rw length-replicate at (h (replicate n v) (length-replicate n v)) in
+    cells-told n (effect i n) (effect j n) k l (on 0) (on 1)

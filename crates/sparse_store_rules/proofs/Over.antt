@@ -1,6 +1,6 @@
 -- Laws of cells laid over a partition.
 -- Assumes nothing.
-use mathlib.Core.Path.{_≡_, refl, sym, ap, _∙_}
+use mathlib.Core.Path.{_≡_, refl, sym, ap, ap₂, _∙_}
 use mathlib.Core.Option.{Option, none, some, Option·getD}
 use mathlib.Core.List.{List, [], _∷_, _++_, map, append-assoc}
 use Prim.Native.Nat.{ℕ, zero, suc, _+_, _≤_, _<_}
@@ -8,6 +8,7 @@ use native.Mathlib.Nat.{le-of-suc-le-suc, not-suc-le-zero}
 use native.Mathlib.Omega.{arith}
 use lib.ListN.{length, getD, replicate, drop, length-append, length-replicate}
 use Rattle.sparse_store_rules.specs.Store.{over, laid}
+use Rattle.sparse_store_rules.specs.Runs.{later}
 
 -- ---- laying over
 
@@ -89,3 +90,62 @@ laid-then from cs ds p =
 -- a stored byte, and the cells after it
 pub laid-cons : (from v : ℕ) (cs : List (Option ℕ)) (p : List ℕ) → laid (suc from) cs (laid from (some v ∷ []) p) ≡ laid from (some v ∷ cs) p
 laid-cons from v cs p = let n : from + 1 ≡ suc from = omega arith in rw n at (laid-then from (some v ∷ []) cs p)
+
+-- ---- one laying over after another
+
+-- of two cells for each byte, the later where it stores the byte
+abbrev pub laters : List (Option ℕ) → List (Option ℕ) → List (Option ℕ)
+laters [] cs = []
+laters (d ∷ ds) [] = []
+laters (d ∷ ds) (c ∷ cs) = later d c ∷ laters ds cs
+
+-- the later of two cells over a byte
+pub later-getD : (a b : Option ℕ) (x : ℕ) → Option·getD (later a b) x ≡ Option·getD a (Option·getD b x)
+later-getD none b x = refl
+later-getD (some y) b x = refl
+
+-- laid over at once, they leave what one after the other leaves
+pub over-laters : (ds cs : List (Option ℕ)) (p : List ℕ) → length ds ≡ length cs → over (laters ds cs) p ≡ over ds (over cs p)
+over-laters [] [] p e = refl
+over-laters [] (c ∷ cs) p e = absurd (omega arith)
+over-laters (d ∷ ds) [] p e = absurd (omega arith)
+over-laters (d ∷ ds) (c ∷ cs) [] e = refl
+over-laters (d ∷ ds) (c ∷ cs) (x ∷ xs) e = ap₂ (λ (y : ℕ) (r : List ℕ). y ∷ r) (later-getD d c x) (over-laters ds cs xs (omega arith))
+
+-- parts of them one after the other
+pub laters-append : (ds es cs bs : List (Option ℕ)) → length ds ≡ length cs → laters (ds ++ es) (cs ++ bs) ≡ laters ds cs ++ laters es bs
+laters-append [] es [] bs e = refl
+laters-append [] es (c ∷ cs) bs e = absurd (omega arith)
+laters-append (d ∷ ds) es [] bs e = absurd (omega arith)
+laters-append (d ∷ ds) es (c ∷ cs) bs e = ap (λ (r : List (Option ℕ)). later d c ∷ r) (laters-append ds es cs bs (omega arith))
+
+-- where the later ones store nothing, the first are left
+pub laters-kept : (cs : List (Option ℕ)) → laters (replicate (length cs) none) cs ≡ cs
+laters-kept [] = refl
+laters-kept (c ∷ cs) = ap (λ (r : List (Option ℕ)). c ∷ r) (laters-kept cs)
+
+-- where they store every byte, they are
+pub laters-stored : (l : List ℕ) (cs : List (Option ℕ)) → length l ≡ length cs → laters (map some l) cs ≡ map some l
+laters-stored [] cs e = refl
+laters-stored (v ∷ l) [] e = absurd (omega arith)
+laters-stored (v ∷ l) (c ∷ cs) e = ap (λ (r : List (Option ℕ)). some v ∷ r) (laters-stored l cs (omega arith))
+
+-- ---- what is laid over tells the cells
+
+cell-told : (c d : Option ℕ) → Option·getD c 0 ≡ Option·getD d 0 → Option·getD c 1 ≡ Option·getD d 1 → c ≡ d
+cell-told none none e f = refl
+cell-told none (some v) e f = absurd (omega arith)
+cell-told (some v) none e f = absurd (omega arith)
+cell-told (some v) (some w) e f = ap some e
+
+-- cells for n bytes that leave the same of n zeros, and of n ones, are the same
+pub cells-told : (n : ℕ) (cs ds : List (Option ℕ)) → length cs ≡ n → length ds ≡ n → over cs (replicate n 0) ≡ over ds (replicate n 0)
+    → over cs (replicate n 1) ≡ over ds (replicate n 1) → cs ≡ ds
+cells-told zero [] [] k l e f = refl
+cells-told zero [] (d ∷ ds) k l e f = absurd (omega arith)
+cells-told zero (c ∷ cs) ds k l e f = absurd (omega arith)
+cells-told (suc n) [] ds k l e f = absurd (omega arith)
+cells-told (suc n) (c ∷ cs) [] k l e f = absurd (omega arith)
+cells-told (suc n) (c ∷ cs) (d ∷ ds) k l e f =
+    ap₂ (λ (x : Option ℕ) (r : List (Option ℕ)). x ∷ r) (cell-told c d (ap (λ (r : List ℕ). getD r 0 0) e) (ap (λ (r : List ℕ). getD r 0 0) f))
+    (cells-told n cs ds (omega arith) (omega arith) (ap (drop 1) e) (ap (drop 1) f))

@@ -3,7 +3,7 @@
 -- Assumes nothing.
 use mathlib.Core.Path.{_≡_, refl, sym, ap, _∙_}
 use mathlib.Core.Option.{Option, none, some, Option·getD}
-use mathlib.Core.List.{List, [], _∷_}
+use mathlib.Core.List.{List, [], _∷_, _++_}
 use Prim.Native.Nat.{ℕ, _*_, _<_}
 use lib.ListN.{length, getD}
 use lib.Seq.{ext-getD}
@@ -11,7 +11,7 @@ use Rattle.sparse_rules.specs.Header.{blockSize}
 use Rattle.sparse_rules.specs.Judge.{effect}
 use Rattle.sparse_store_rules.specs.Store.{torn, store, cutStore}
 use Rattle.sparse_store_rules.specs.Runs.{run, answers, Cut, stop, inside, past, Reached, start, again, later, lastGiven, Disturbed, Restored, Restart}
-use Rattle.sparse_store_rules.proofs.Over.{length-over, getD-over}
+use Rattle.sparse_store_rules.proofs.Over.{length-over, getD-over, later-getD}
 use Rattle.sparse_store_rules.proofs.Torn.{torn-none}
 
 -- ---- one storing, byte by byte
@@ -43,13 +43,14 @@ pub later-none : (a b : Option ℕ) → later a b ≡ none → (a ≡ none) × (
 later-none none b e = (refl, e)
 later-none (some x) b e = (e, cc)
 
-later-getD : (a b : Option ℕ) (x : ℕ) → Option·getD (later a b) x ≡ Option·getD a (Option·getD b x)
-later-getD none b x = refl
-later-getD (some y) b x = refl
-
 length-run : (ss : List (List ℕ)) (p : List ℕ) → length (run ss p) ≡ length p
 length-run [] p = refl
 length-run (s ∷ ss) p = length-run ss (store s p) ∙ length-store s p
+
+-- a run of images after others
+pub run-append : (ss ts : List (List ℕ)) (p : List ℕ) → run (ss ++ ts) p ≡ run ts (run ss p)
+run-append [] ts p = refl
+run-append (s ∷ ss) ts p = run-append ss ts (store s p)
 
 -- each byte is the one that the last accepted image to store it gives it, or the original
 run-at : (ss : List (List ℕ)) (p : List ℕ) (i : ℕ) → i < length p

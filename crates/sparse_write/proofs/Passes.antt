@@ -21,11 +21,11 @@ use Rattle.sparse_write_rules.proofs.Runs.{of, at-least, blocks-small}
 use Rattle.sparse_write_rules.proofs.KindCells.{Stores, stored-stores, WordFits, stored-fits, raw-part}
 use Rattle.sparse_write_rules.proofs.Chunks.{chunks-nil, chunks-cons, length-chunk}
 use Rattle.sparse_write_rules.proofs.FlatImage.{block-good}
-use Rattle.sparse_scan.specs.Numbered.{kindNumbered, OfKind}
-use Rattle.sparse_scan.proofs.Numbered.{number-stored, number-small, run-holds}
+use Rattle.sparse_write_rules.specs.Numbered.{kindNumbered, OfKind}
+use Rattle.sparse_write_rules.proofs.Numbered.{number-stored, number-small, run-holds}
 use Rattle.sparse_scan.specs.Scan.{wholeBlocks, kindsAt, runsAt, firstKind, runBlocks, afterRun}
 use Rattle.sparse_scan.proofs.Whole.{whole-all}
-use Rattle.sparse_scan.proofs.Scanning.{FirstRun, first-is}
+use Rattle.sparse_scan.proofs.Scanning.{FirstRun, first-of, first-is}
 
 -- ---- the first run, and those after it
 
@@ -46,10 +46,6 @@ none-left : (f : ℕ → BlockKind) (b at n : ℕ) → n ≡ 0 → runsAt f b n 
 unfolding runs kindsAt
 none-left f b at zero e = refl
 none-left f b at (suc n) e = absurd (omega arith)
-
-first-of : (f : ℕ → BlockKind) (n at : ℕ) → 0 < n → firstKind f n at ≡ f at
-first-of f zero at h = absurd (omega arith)
-first-of f (suc n) at h = refl
 
 size-small : (kind : BlockKind) (n : ℕ) → 4 ≤ n → chunkSize kind n ≤ 4 * n
 size-small kept n h = omega arith

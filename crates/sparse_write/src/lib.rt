@@ -5,35 +5,27 @@
 mod put;
 
 use put::put_chunk;
+use sparse_put::chunk_size;
 use sparse_rules::Refusal;
 use sparse_scan::first_kind;
 use sparse_scan::first_run;
 use sparse_write_rules::Outcome;
 ghost use mathlib.Core.Path.{_≡_};
 ghost use mathlib.Core.Bool.{true};
-ghost use Prim.Native.Nat.{_+_, _*_, _≤_, _<_};
+ghost use Prim.Native.Nat.{_+_, _*_, _≤_};
 ghost use lib.ListN.{length};
 ghost use lib.Seq.{sets};
 ghost use Rattle.crc32_rules.specs.Crc.{crcFrom, allOnes};
 ghost use Rattle.sparse_rules.specs.Header.{blockSizeRight};
 ghost use Rattle.sparse_write_rules.specs.Kinds.{storedKind};
-ghost use Rattle.sparse_write_rules.specs.Encode.{chunkSize, chunks};
+ghost use Rattle.sparse_write_rules.specs.Encode.{chunks};
 ghost use Rattle.sparse_write_rules.specs.Write.{answerOf, answer, output};
-ghost use Rattle.sparse_scan.specs.Numbered.{kindNumbered};
 ghost use Rattle.sparse_scan.specs.Scan.{runsAt};
 
 // An image's length, and its number of chunks.
 struct Extent {
     bytes: usize,
     chunks: u32,
-}
-
-// The total size of a chunk of a kind over n bytes.
-fn chunk_size(kind: u64, n: usize) -> usize
-    requires { ⌜ (0 < kind) × (n ≤ 2147483648) ⌝ }
-    ensures { λ r. ⌜ (r ≡ chunkSize (kindNumbered kind) n) × (r ≤ 16 + n) ⌝ }
-{
-    if kind == 1 { 12 + n } else { 16 }
 }
 
 // The extent of the image of n blocks, found before a byte of it is stored.
@@ -51,7 +43,7 @@ fn measure(flat: &[u8], block: u32, n: usize) -> Extent
         let r = first_run(flat, block, at, kind);
         let blocks = r.blocks;
         let len = r.len;
-        bytes = bytes + chunk_size(kind, len);
+        bytes = bytes + chunk_size(kind, len as u32) as usize;
         count = count + 1;
         at = at + len;
         left = left - blocks;
@@ -81,7 +73,7 @@ fn put_chunks(out: &mut [u8], flat: &[u8], block: u32, n: usize) -> u32
         let len = r.len;
         let end = at + len;
         state = put_chunk(out, pos, &flat[at..end], kind, blocks as u32, state);
-        pos = pos + chunk_size(kind, len);
+        pos = pos + chunk_size(kind, len as u32) as usize;
         at = end;
         left = left - blocks;
         kind = r.next;

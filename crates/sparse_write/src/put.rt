@@ -6,22 +6,18 @@ ghost use lib.Seq.{sets};
 ghost use Rattle.fields_rules.specs.Number.{bytes};
 ghost use Rattle.crc32_rules.specs.Crc.{crcFrom};
 ghost use Rattle.crc32_rules.specs.Power.{repeated};
-ghost use Rattle.sparse_write_rules.specs.Kinds.{raw};
 ghost use Rattle.sparse_write_rules.specs.Encode.{chunkSize, chunk};
-ghost use Rattle.sparse_scan.specs.Numbered.{kindNumbered, OfKind};
+ghost use Rattle.sparse_write_rules.specs.Numbered.{kindNumbered, OfKind};
 
 // From this length on, a run of one word costs less than its bytes one after the other.
 const LONG: usize = 128;
 
-// A raw chunk of so many blocks, and the state after their data, read where they were put.
-fn put_raw(out: &mut [u8], pos: usize, src: &[u8], blocks: u32, state: u32) -> u32
-    requires { ⌜ (pos + (12 + length (now src)) ≤ length (now out)) × (length (now src) ≤ 2147483648) ⌝ }
-    ensures { λ r. ⌜ (r ≡ crcFrom state (now (src .entry)))
-        × (now (out .exit) ≡ sets (now (out .entry)) pos (chunk raw blocks (now (src .entry)))) ⌝ }
+// Raw data put at a place, and the state after them, read where they were put.
+fn put_data(out: &mut [u8], from: usize, src: &[u8], state: u32) -> u32
+    requires { ⌜ from + length (now src) ≤ length (now out) ⌝ }
+    ensures { λ r. ⌜ (r ≡ crcFrom state (now (src .entry))) × (now (out .exit) ≡ sets (now (out .entry)) from (now (src .entry))) ⌝ }
 {
-    let from = pos + 12;
     let end = from + src.len();
-    sparse_put::put_head(out, pos, 0xCAC1, blocks, (12 + src.len()) as u32);
     fields_write::copy(out, from, src);
     crc32::update(state, &out[from..end])
 }
@@ -55,10 +51,11 @@ pub(crate) fn put_chunk(
     ensures { λ r. ⌜ (r ≡ crcFrom state (now (src .entry)))
         × (now (out .exit) ≡ sets (now (out .entry)) pos (chunk (kindNumbered kind) blocks (now (src .entry)))) ⌝ }
 {
+    let total = sparse_put::chunk_size(kind, src.len() as u32);
+    sparse_put::put_top(out, pos, kind, blocks, total as u32);
     if kind == 1 {
-        return put_raw(out, pos, src, blocks, state);
+        return put_data(out, pos + 12, src, state);
     }
     let word = (kind - 2) as u32;
-    sparse_put::put_fill(out, pos, word, blocks);
     sum_fill(state, src, word)
 }

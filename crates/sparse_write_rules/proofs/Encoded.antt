@@ -5,6 +5,7 @@ use mathlib.Core.Bool.{true}
 use mathlib.Core.Option.{Option, none, some}
 use mathlib.Core.List.{List, [], _∷_, _++_, map}
 use Prim.Native.Nat.{ℕ, _+_, _*_, _%_, _≤_, _<_}
+use native.Mathlib.Nat.{suc-mul}
 use native.Mathlib.Omega.{arith}
 use lib.ListN.{length, getD, drop, replicate, length-append, length-map, length-replicate, List·getD-append}
 use lib.Seq.{getD-drop, drop-drop, drop-at}
@@ -40,6 +41,13 @@ use Rattle.sparse_write_rules.proofs.ImageBytes.{bytes-blocks, encode-b
 pub length-block : (b : ℕ) (x : Block) → Fits b x → length (cellsOfBlock b x) ≡ b
 length-block b none f = length-replicate b none
 length-block b (some ys) f = length-map ys some ∙ f .0
+
+-- blocks have as many cells as they have bytes
+pub length-blockCells : (b : ℕ) (xs : List Block) → AllFit b xs → length (blockCells b xs) ≡ length xs * b
+unfolding blockCells
+length-blockCells b [] f = omega arith
+length-blockCells b (x ∷ xs) f =
+    length-append (cellsOfBlock b x) (blockCells b xs) ∙ omega (arith, length-block b x (f .0), length-blockCells b xs (f .1), suc-mul (length xs) b)
 
 -- ---- block by block
 

@@ -8,9 +8,9 @@ use Prim.Native.Nat.{ℕ, zero, suc, _+_, _*_, _/_, _%_, _≤_, _<_}
 use native.Mathlib.Nat.{suc-mul, div-add-mod'}
 use native.Mathlib.Omega.{arith}
 use lib.Dec.{leb, ltb, eqb}
-use lib.ListN.{length, drop, length-map}
-use lib.Seq.{take-length}
-use borrow.Author.Tests.{leb-true, eqb-true, ltb-false, lt-ltb, le-ltb, not-false}
+use lib.ListN.{length, getD, drop, length-map, List·getD-append}
+use lib.Seq.{take-length, getD-drop}
+use borrow.Author.Tests.{leb-true, eqb-true, ltb-false, le-leb, eq-eqb, lt-ltb, le-ltb, not-false}
 use Rattle.fields_rules.specs.Number.{numberAt}
 use Rattle.fields_rules.proofs.Laws.{number-same}
 use Rattle.rules.specs.Answer.{accepted, refused}
@@ -18,7 +18,7 @@ use Rattle.rules.proofs.Tests.{both, or-left, or-right}
 use Rattle.crc32_rules.specs.Crc.{crc32}
 use Rattle.sparse_rules.specs.Header.{blockSizeRight}
 use Rattle.sparse_rules.specs.Cells.{tab, rawByte}
-use Rattle.sparse_rules.proofs.Cells.{getD-tab, zeroed-some}
+use Rattle.sparse_rules.proofs.Cells.{getD-tab, tab-same, zeroed-some}
 use Rattle.sparse_write_rules.specs.Blocks.{blockCells, blocksFrom, flatBlocks}
 use Rattle.sparse_write_rules.specs.Kinds.{allEqual, storedKind, sameKind, blockKind}
 use Rattle.sparse_write_rules.specs.Runs.{runs}
@@ -68,6 +68,16 @@ cells-at d b (suc n) at =
 pub flat-table : (d : List ℕ) → tab (rawByte d 0) 0 (length d) ≡ d
 flat-table d = raw-part d 0 (length d) (omega arith) ∙ take-length d
 
+-- and so are bytes that stand among others
+pub table-ahead : (d ys rest : List ℕ) (at : ℕ) → drop at d ≡ ys ++ rest → tab (rawByte d at) 0 (length ys) ≡ ys
+table-ahead d ys rest at e =
+    tab-same (rawByte d at) (rawByte ys 0) 0 0 (length ys)
+    (λ i l.
+    let z : at + (0 + i) ≡ at + i = omega arith in
+    let y : 0 + (0 + i) ≡ i = omega arith in
+    rw (z, y) (sym (getD-drop at d i 0) ∙ ap (λ (r : List ℕ). getD r i 0) e ∙ List·getD-append ys rest 0 i l))
+    ∙ flat-table ys
+
 -- the cells of flat data that are whole blocks: all are stored
 pub cells-flat : (d : List ℕ) (b : ℕ) → length d / b * b ≡ length d → blockCells b (flatBlocks d b) ≡ map some d
 unfolding flatBlocks
@@ -88,6 +98,10 @@ block-good b e =
     let p = both (leb 4 b && leb b 65536) (eqb (b % 4) 0) e in
     let q = both (leb 4 b) (leb b 65536) (p .0) in
     (leb-true 4 b (q .0), leb-true b 65536 (q .1), eqb-true (b % 4) 0 (p .1))
+
+-- and such a size is right
+pub block-right : (b : ℕ) → 4 ≤ b → b ≤ 65536 → b % 4 ≡ 0 → blockSizeRight b ≡ true
+block-right b least most fours = rw (le-leb 4 b least, le-leb b 65536 most, eq-eqb (b % 4) 0 fours)
 
 -- the flat data are not too long, and are whole blocks
 pub length-good : (n b : ℕ) → lengthWrong n b ≡ false → (n ≤ 2147483648) × (n / b * b ≡ n)

@@ -1,6 +1,7 @@
 pub mod Runs
 pub mod KindSteps
 pub mod KindCells
+pub mod Numbered
 pub mod Chunks
 pub mod ReadBack
 pub mod FlatImage

@@ -1,18 +1,20 @@
 -- The parts of an image, put one after the other.
 -- Assumes nothing.
-use mathlib.Core.Path.{_≡_, sym, ap, _∙_}
-use mathlib.Core.List.{List, [], _∷_}
-use Prim.Native.Nat.{ℕ, _+_, _-_, _≤_, _<_}
+use mathlib.Core.Path.{_≡_, refl, sym, ap, ap₂, _∙_}
+use mathlib.Core.List.{List, [], _∷_, _++_, append-assoc, append-nil}
+use Prim.Native.Nat.{ℕ, _+_, _-_, _%_, _≤_, _<_}
 use native.Mathlib.Omega.{arith}
-use lib.ListN.{length, take, drop}
+use lib.ListN.{length, take, drop, length-append}
 use lib.Seq.{sets, length-sets}
 use Rattle.fields_rules.specs.Number.{bytes, packed, placed}
-use Rattle.fields_rules.proofs.Laws.{placed-whole, placed-none}
+use Rattle.fields_rules.proofs.Laws.{bytes-low, placed-whole, placed-none}
 use Rattle.fields_rules.proofs.Packed.{field-put}
 use Rattle.fields_rules.proofs.Sets.{sets-append, sets-at}
 use Rattle.crc32_rules.specs.Crc.{crcFrom}
-use Rattle.sparse_write_rules.specs.Kinds.{raw, fill}
-use Rattle.sparse_write_rules.specs.Encode.{chunkHeader, chunk, version, header}
+use Rattle.sparse_write_rules.specs.Kinds.{BlockKind, kept, raw, fill}
+use Rattle.sparse_write_rules.specs.Encode.{chunkSize, chunkHeader, chunk, version, header}
+use Rattle.sparse_write_rules.specs.Parts.{chunkTop, chunkRest}
+use Rattle.sparse_write_rules.proofs.Chunks.{chunk-parts, rest-none, length-raw}
 
 -- a chunk header that fits
 pub head-put : (t k z : ℕ) (l : List ℕ) (i : ℕ) {l1 l2 l3 l4 : List ℕ} → i + 12 ≤ length l
@@ -66,36 +68,67 @@ head-none t k z l i h = placed-none l i (chunkHeader t k z) h
 
 -- ---- chunks
 
+-- a chunk that is not fill begins with its header alone
+pub top-kept : (k z : ℕ) → chunkTop kept k z ≡ chunkHeader 0xCAC3 k z
+unfolding chunkTop chunkHeader packed
+top-kept k z = refl
+
+pub top-raw : (k z : ℕ) → chunkTop raw k z ≡ chunkHeader 0xCAC1 k z
+unfolding chunkTop chunkHeader packed
+top-raw k z = refl
+
+-- a fill chunk with its word, of which 4 bytes count
+pub top-fill : (w k z : ℕ) → chunkTop (fill (w % 4294967296)) k z ≡ chunkTop (fill w) k z
+unfolding chunkTop
+top-fill w k z = ap (λ (r : List ℕ). chunkHeader 0xCAC2 k z ++ r) (bytes-low 4 w 4294967296 refl (omega arith))
+
 -- a header and the fill word after it
-pub fill-put : (k w : ℕ) (l : List ℕ) (i : ℕ) {l1 l2 : List ℕ} → i + 16 ≤ length l
-    → l1 ≡ placed l i (chunkHeader 0xCAC2 k 16) → l2 ≡ placed l1 (i + 12) (bytes 4 w) → l2 ≡ placed l i (chunk (fill w) k [])
-unfolding chunk chunkHeader packed
-fill-put k w l i {l1} h e f =
-    let g = e ∙ placed-whole l i (chunkHeader 0xCAC2 k 16) (omega arith) in
-    let long = ap length g ∙ length-sets l i (chunkHeader 0xCAC2 k 16) in
-    f ∙ placed-whole l1 (i + 12) (bytes 4 w) (omega arith) ∙ rw g (sym (sets-append (chunkHeader 0xCAC2 k 16) (bytes 4 w) l i))
-    ∙ sym (placed-whole l i (chunk (fill w) k []) h)
+pub fill-put : (k w z : ℕ) (l : List ℕ) (i : ℕ) {l1 l2 : List ℕ} → i + 16 ≤ length l
+    → l1 ≡ placed l i (chunkHeader 0xCAC2 k z) → l2 ≡ placed l1 (i + 12) (bytes 4 w) → l2 ≡ placed l i (chunkTop (fill w) k z)
+unfolding chunkTop chunkHeader packed
+fill-put k w z l i {l1} h e f =
+    let g = e ∙ placed-whole l i (chunkHeader 0xCAC2 k z) (omega arith) in
+    let long = ap length g ∙ length-sets l i (chunkHeader 0xCAC2 k z) in
+    f ∙ placed-whole l1 (i + 12) (bytes 4 w) (omega arith) ∙ rw g (sym (sets-append (chunkHeader 0xCAC2 k z) (bytes 4 w) l i))
+    ∙ sym (placed-whole l i (chunkTop (fill w) k z) h)
 
--- a fill chunk that does not fit
-pub fill-none : (k w : ℕ) (l : List ℕ) (i : ℕ) → length l < i + 16 → placed l i (chunk (fill w) k []) ≡ l
-unfolding chunk chunkHeader packed
-fill-none k w l i h = placed-none l i (chunk (fill w) k []) h
+-- where these do not fit, nothing changes
+pub fill-none : (k w z : ℕ) (l : List ℕ) (i : ℕ) → length l < i + 16 → placed l i (chunkTop (fill w) k z) ≡ l
+unfolding chunkTop chunkHeader packed
+fill-none k w z l i h = placed-none l i (chunkTop (fill w) k z) h
 
--- a header, the raw data after it, and the checksum's state over them, read where they were put
-pub raw-put : (k : ℕ) (xs l : List ℕ) (i state r : ℕ) {l1 l2 : List ℕ} → i + (12 + length xs) ≤ length l
-    → l1 ≡ placed l i (chunkHeader 0xCAC1 k (12 + length xs)) → l2 ≡ sets l1 (i + 12) xs
-    → r ≡ crcFrom state (take (i + 12 + length xs - (i + 12)) (drop (i + 12) l2))
-    → (r ≡ crcFrom state xs) × (l2 ≡ sets l i (chunk raw k xs))
-unfolding chunk chunkHeader packed
-raw-put k xs l i state r {l1} h e f g =
-    let whole = e ∙ placed-whole l i (chunkHeader 0xCAC1 k (12 + length xs)) (omega arith) in
-    let long = ap length whole ∙ length-sets l i (chunkHeader 0xCAC1 k (12 + length xs)) in
-    let n : i + 12 + length xs - (i + 12) ≡ length xs = omega arith in (
-      g ∙ rw (n, f) (ap (crcFrom state) (sets-at xs l1 (i + 12) (omega arith))),
-      f ∙ rw whole (sym (sets-append (chunkHeader 0xCAC1 k (12 + length xs)) xs l i)),
-    )
+-- the beginning of a chunk fits where the chunk does
+pub top-fits : (kind : BlockKind) (k n : ℕ) (l : List ℕ) (i : ℕ) → i + chunkSize kind n ≤ length l
+    → placed l i (chunkTop kind k (chunkSize kind n)) ≡ sets l i (chunkTop kind k (chunkSize kind n))
+unfolding chunkTop chunkHeader packed
+top-fits kept k n l i h = placed-whole l i (chunkTop kept k 12) (omega arith)
+top-fits raw k n l i h = placed-whole l i (chunkTop raw k (12 + n)) (omega arith)
+top-fits (fill w) k n l i h = placed-whole l i (chunkTop (fill w) k (12 + 4)) (omega arith)
 
--- a fill chunk that fits, whatever its blocks hold
-pub fill-fits : (k w : ℕ) (xs l : List ℕ) (i : ℕ) → i + 16 ≤ length l → placed l i (chunk (fill w) k []) ≡ sets l i (chunk (fill w) k xs)
-unfolding chunk chunkHeader packed
-fill-fits k w xs l i h = placed-whole l i (chunk (fill w) k []) h
+-- raw data go after those that stand there
+pub rest-put : (k : BlockKind) (j total : ℕ) (xs ys l : List ℕ) (i : ℕ)
+    → sets (sets l i (chunkTop k j total ++ chunkRest k xs)) (i + 12 + length xs) (chunkRest k ys) ≡ sets l i (chunkTop k j total ++ chunkRest k (xs ++ ys))
+rest-put kept j total xs ys l i = refl
+rest-put (fill w) j total xs ys l i = refl
+rest-put raw j total xs ys l i =
+    let z : i + 12 + length xs ≡ i + length (chunkTop raw j total ++ xs) = omega (arith, length-append (chunkTop raw j total) xs, length-raw j total) in
+    ap (λ (n : ℕ). sets (sets l i (chunkTop raw j total ++ xs)) n ys) z
+    ∙ sym (sets-append (chunkTop raw j total ++ xs) ys l i)
+    ∙ ap (sets l i) (append-assoc (chunkTop raw j total) xs ys)
+
+-- a chunk whose beginning is put, and its raw data after that
+pub chunk-put : (kind : BlockKind) (k : ℕ) (xs l : List ℕ) (i : ℕ) {l1 : List ℕ} → i + chunkSize kind (length xs) ≤ length l
+    → l1 ≡ placed l i (chunkTop kind k (chunkSize kind (length xs))) → sets l1 (i + 12) (chunkRest kind xs) ≡ sets l i (chunk kind k xs)
+chunk-put kind k xs l i h e =
+    let z : i + 12 + 0 ≡ i + 12 = omega arith in
+    let top : List ℕ = chunkTop kind k (chunkSize kind (length xs)) in
+    ap₂ (λ (m : List ℕ) (n : ℕ). sets m n (chunkRest kind xs)) (e ∙ top-fits kind k (length xs) l i h ∙ ap (sets l i) (sym (append-nil top) ∙ ap (λ (r : List ℕ). top ++ r) (sym (rest-none kind)))) (sym z)
+    ∙ rest-put kind k (chunkSize kind (length xs)) [] xs l i
+    ∙ ap (sets l i) (sym (chunk-parts kind k xs))
+
+-- the checksum's state over data, read where they were put
+pub data-summed : (xs l : List ℕ) (i state : ℕ) {r : ℕ} {l1 : List ℕ} → i + length xs ≤ length l → l1 ≡ sets l i xs
+    → r ≡ crcFrom state (take (i + length xs - i) (drop i l1)) → r ≡ crcFrom state xs
+data-summed xs l i state h e g =
+    let n : i + length xs - i ≡ length xs = omega arith in
+    g ∙ rw (n, e) (ap (crcFrom state) (sets-at xs l i h))

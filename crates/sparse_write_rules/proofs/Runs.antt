@@ -43,6 +43,13 @@ tells-kinds = record { sound = same-sound; complete = same-complete }
 abbrev pub of : {A : Type 0} → A → ℕ → Run A
 of k n = record { kind = k; many = n }
 
+-- runs that begin with one of so many at least
+pub record Begins {A : Type 0} (k : A) (n : ℕ) (rs : List (Run A)) : Type 0 where
+  pub many : ℕ
+  pub least : n ≤ many
+  pub rest : List (Run A)
+  pub is : rs ≡ of k many ∷ rest
+
 module _ {A : Type 0} (same : A → A → Bool) (tells : Tells same) where
   -- a test that fails tells two elements apart
   pub apart : (x y : A) → same x y ≡ false → x ≡ y → ⊥
@@ -121,6 +128,22 @@ module _ {A : Type 0} (same : A → A → Bool) (tells : Tells same) where
   closed-before k j n zero r h d = absurd (not-suc-le-zero h)
   closed-before k j zero (suc m) r h d = refl
   closed-before k j (suc n) (suc m) r h d = grows k n (j ∷ replicate m j ++ r) (front-other k j (runs same (replicate m j ++ r)) d)
+
+  begins-front : (k : A) (rs : List (Run A)) → Begins k 1 (inFront same k rs)
+  begins-front k [] = record { many = 1; least = omega arith; rest = []; is = refl }
+  begins-front k (r ∷ rs) = go (same k (r .kind))
+    where
+      go : (x : Bool) → Begins k 1 (cond x (of k (suc (r .many)) ∷ rs) (of k 1 ∷ r ∷ rs))
+      go true = record { many = suc (r .many); least = omega arith; rest = rs; is = refl }
+      go false = record { many = 1; least = omega arith; rest = r ∷ rs; is = refl }
+
+  -- as do those of some equal elements and others after them
+  pub begins : (k : A) (n : ℕ) (ks : List A) → Begins k (suc n) (runs same (replicate (suc n) k ++ ks))
+  unfolding runs
+  begins k zero ks = begins-front k (runs same ks)
+  begins k (suc n) ks =
+      let b = begins k n ks in
+      record { many = suc (b .many); least = omega (arith, b .least); rest = b .rest; is = ap (inFront same k) (b .is) ∙ front-same k (b .many) (b .rest) }
 
 -- what holds of the runs of a list
 pub grouped : Grouped

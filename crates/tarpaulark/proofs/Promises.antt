@@ -7,6 +7,7 @@ use Rattle.sparse_store_rules.proofs.Storing as storing
 use Rattle.sparse_stream_rules.proofs.Theorems as passes
 use Rattle.sparse_write_rules.proofs.Theorems as writer
 use Rattle.sparse_diff_rules.proofs.Theorems as diff
+use Rattle.sparse_join_rules.proofs.Theorems as joiner
 use Rattle.tarpaulark.specs.Promises.{Promises}
 
 pub promises : Promises
@@ -17,6 +18,7 @@ promises =
       passes = passes.refusal-numbers;
       writer = writer.refusal-numbers;
       comparing = diff.refusal-numbers;
+      joining = joiner.refusal-numbers;
       boot = boot.refusal-numbers;
       slots = slots.refusal-numbers;
     }

@@ -7,6 +7,7 @@ use Rattle.sparse_store_rules.specs.Storing as storing
 use Rattle.sparse_stream_rules.specs.Theorems as passes
 use Rattle.sparse_write_rules.specs.Theorems as writer
 use Rattle.sparse_diff_rules.specs.Theorems as diff
+use Rattle.sparse_join_rules.specs.Theorems as joiner
 
 -- no refusal of any part has the number 0, which is returned where nothing is refused
 pub record Promises : Type 0 where
@@ -15,5 +16,6 @@ pub record Promises : Type 0 where
   pub passes : passes.RefusalNumbers
   pub writer : writer.RefusalNumbers
   pub comparing : diff.RefusalNumbers
+  pub joining : joiner.RefusalNumbers
   pub boot : boot.RefusalNumbers
   pub slots : slots.RefusalNumbers

@@ -35,6 +35,7 @@ ghost use Rattle.tarpaulark_passes.specs.Handed.{Held, Handed, HandedAnswer};
 ghost use Rattle.sparse_write_rules.specs.Write as writer;
 ghost use Rattle.sparse_blocks_rules.specs.Pairs.{refusedImage};
 ghost use Rattle.sparse_diff_rules.specs.Diff as diff;
+ghost use Rattle.sparse_join_rules.specs.Join as joiner;
 ghost use Rattle.tarpaulark_numbers.specs.Numbers.{verdictNumbers, countNumbers, pairNumbers, chunkIn, chunkNumbers, headerNumbersBy, layoutNumbers};
 ghost use Rattle.slot_on_bytes.specs.OnBytes.{onBytes, freshBytes, bytesRefusal, bytesStartable};
 
@@ -143,6 +144,25 @@ pub extern "C" fn tarpaulark_compare(
         × (now (runs .exit) ≡ diff.listed (now (first .entry)) (now (second .entry)) (now (runs .entry))) ⌝ }
 {
     let found = sparse_diff::compare(first, second, runs);
+    *out = paired_answer(found);
+    paired_number(found)
+}
+
+// Makes one image of two that has the effect of the first followed by the second. Answers place, the image that a refusal is
+// of, the image's length.
+#[no_mangle]
+pub extern "C" fn tarpaulark_join(
+    first: &[u8],
+    second: &[u8],
+    image: &mut [u8],
+    out: &mut [u64; 3],
+) -> u32
+    ensures { λ r. ⌜ (r ≡ numberOf (joiner.answer (now (first .entry)) (now (second .entry)) (length (now (image .entry)))))
+        × (now (out .exit) ≡ pairNumbers (refusedImage (now (first .entry)) (now (second .entry)))
+        (joiner.answer (now (first .entry)) (now (second .entry)) (length (now (image .entry)))))
+        × (now (image .exit) ≡ joiner.output (now (first .entry)) (now (second .entry)) (now (image .entry))) ⌝ }
+{
+    let found = sparse_join::join(first, second, image);
     *out = paired_answer(found);
     paired_number(found)
 }

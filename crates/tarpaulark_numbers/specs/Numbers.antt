@@ -30,7 +30,7 @@ verdictNumbers = numbersBy 3 (λ c. c .written ∷ c .«dont_care» ∷ c .unkno
 abbrev pub countNumbers : Answer ℕ → List ℕ
 countNumbers = numbersBy 1 (λ n. n ∷ [])
 
--- the array of an answer about two images: place, the image that a refusal is of, and how many runs
+-- the array of an answer about two images: place, the image that a refusal is of, and how many runs or the joined image's length
 abbrev pub pairNumbers : ℕ → Answer ℕ → List ℕ
 pairNumbers image (accepted n) = 0 ∷ image ∷ n ∷ []
 pairNumbers image (refused m place) = place ∷ image ∷ 0 ∷ []

@@ -156,7 +156,7 @@ pub fn paired_number(p: Paired) -> u32
     }
 }
 
-// The place of an answer about two images, the image that its refusal is of, and how many runs.
+// The place of an answer about two images, the image that its refusal is of, and how many runs or the joined image's length.
 pub fn paired_answer(p: Paired) -> [u64; 3]
     ensures { λ r. ⌜ r ≡ pairNumbers (pairs.imageOf p) (pairs.answerOf p) ⌝ }
 {

@@ -3,10 +3,10 @@
 // The arguments are the files of the groups, in the order of the constants below. The cases and the lines that must
 // come out are made by tests/reference/vectors.py, which says how a case is laid out; nothing here knows what a
 // right answer is.
-mod compare_cases;
 mod crc_cases;
 mod field_cases;
 mod image_cases;
+mod pair_cases;
 mod pass_cases;
 mod slot_cases;
 mod store_cases;
@@ -39,6 +39,8 @@ const WRITE: usize = 9;
 
 const COMPARE: usize = 10;
 
+const JOIN: usize = 11;
+
 // The lines of a group's cases, one after the other: the group's name, the case's number, its values.
 fn cases(group: usize, name: &[u8], file: &[u8]) {
     let mut at: usize = 0;
@@ -56,7 +58,8 @@ fn cases(group: usize, name: &[u8], file: &[u8]) {
             SPARSE => image_cases::sparse(rest),
             STORE | PASSES => store_cases::case(rest),
             WRITE => image_cases::write(rest),
-            _ => compare_cases::block(rest),
+            COMPARE => pair_cases::block(rest, 16, false),
+            _ => pair_cases::block(rest, 32, true),
         };
         io::write_all(STDOUT_FILENO, b"\n");
         at = past(file, at, len);
@@ -66,7 +69,7 @@ fn cases(group: usize, name: &[u8], file: &[u8]) {
 
 // The groups, each from its file, whose name is the group's and `.bin`.
 fn main() {
-    for group in CRC..COMPARE + 1 {
+    for group in CRC..JOIN + 1 {
         let mut path = io::buffer();
         let len = os::arg(group, &mut path);
         let fd = os::open_read(&path[..len]);

@@ -1,4 +1,4 @@
--- The worked examples P1 to P14, those of requests 4 to 6 and the lister's texts, computed together: every call of the table gives back what its row says.
+-- The worked examples P1 to P14, those of requests 4 to 7 and the lister's texts, computed together: every call of the table gives back what its row says.
 -- Assumes nothing.
 use mathlib.Core.Path.{refl}
 use lib.Count.{ones, onesIn}
@@ -27,6 +27,7 @@ use Rattle.sparse_blocks_rules.specs.Blocks.{blockFrom, stretch, blocksOf, bloc
 use Rattle.sparse_blocks_rules.specs.Same.{alike}
 use Rattle.sparse_blocks_rules.specs.Pairs.{each, pairAnswer, refusedImage}
 use Rattle.sparse_diff_rules.specs.Diff as diff
+use Rattle.sparse_join_rules.specs.Join as join
 use Rattle.text_rules.specs.Words.{digitsUpTo, decimal, labelled}
 use Rattle.sparse_list_rules.specs.Lines.{refusedLine, headerLine, kindWord, chunkLine, lastLine}
 use Rattle.sparse_list_rules.specs.Listing.{chunkLines, listingOf, listing}
@@ -34,5 +35,5 @@ use Rattle.worked_examples.specs.Calls.{perform}
 use Rattle.worked_examples.specs.Table.{Worked}
 
 pub worked : Worked
-unfolding perform numberAt ones onesIn bit steps byteStep crcFrom crc32 countOf slotsValid startableIn valid firstFrom startOf startableOf sectionsOf rowOf boot.headTests boot.sectionTests boot.answer headerTests kindOf sizeRight chunkTests chunkAt reading endTests walk cellsBy cellsOf cells zeroed checksumOf blocksWhere sumTests summed structure judged effectOf effect judge.answerFor judge.answer store blockCells blocksFrom flatBlocks runs allEqual storedKind packed chunkHeader chunk chunks version header image encode write.flatImage write.writeTests write.answer write.output blockFrom stretch blocksOf blocksFound found blocks alike each pairAnswer refusedImage diff.changes diff.diff diff.numbers diff.answer diff.listed listing listingOf labelled refusedLine headerLine chunkLine chunkLines lastLine digitsUpTo decimal kindWord
+unfolding perform numberAt ones onesIn bit steps byteStep crcFrom crc32 countOf slotsValid startableIn valid firstFrom startOf startableOf sectionsOf rowOf boot.headTests boot.sectionTests boot.answer headerTests kindOf sizeRight chunkTests chunkAt reading endTests walk cellsBy cellsOf cells zeroed checksumOf blocksWhere sumTests summed structure judged effectOf effect judge.answerFor judge.answer store blockCells blocksFrom flatBlocks runs allEqual storedKind packed chunkHeader chunk chunks version header image encode write.flatImage write.writeTests write.answer write.output blockFrom stretch blocksOf blocksFound found blocks alike each pairAnswer refusedImage diff.changes diff.diff diff.numbers diff.answer diff.listed join.joinedBlocks join.join join.answer join.output listing listingOf labelled refusedLine headerLine chunkLine chunkLines lastLine digitsUpTo decimal kindWord
 worked = refl

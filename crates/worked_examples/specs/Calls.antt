@@ -15,9 +15,10 @@ use Rattle.sparse_store_rules.specs.Store as store
 use Rattle.sparse_write_rules.specs.Write as write
 use Rattle.sparse_blocks_rules.specs.Pairs.{refusedImage}
 use Rattle.sparse_diff_rules.specs.Diff as diff
+use Rattle.sparse_join_rules.specs.Join as join
 use Rattle.sparse_list_rules.specs.Listing.{listing}
 
--- a call: an image stored on what a partition holds, flat bytes written at a block size into what an output holds, a boot image located, a slot record started, or its count told, an image listed, two images compared into what a space holds
+-- a call: an image stored on what a partition holds, flat bytes written at a block size into what an output holds, a boot image located, a slot record started, or its count told, an image listed, two images compared into what a space holds, or joined into what an output holds
 pub data Call : Type 0 where
   stores : List ℕ → List ℕ → Call
   writes : List ℕ → ℕ → List ℕ → Call
@@ -26,6 +27,7 @@ pub data Call : Type 0 where
   tells : Record → Call
   lists : List ℕ → Call
   compares : List ℕ → List ℕ → List ℕ → Call
+  joins : List ℕ → List ℕ → List ℕ → Call
 
 -- what comes back: the answer, for two images also the one that a refusal is of, and the contents of what was lent
 pub data Result : Type 0 where
@@ -36,6 +38,7 @@ pub data Result : Type 0 where
   told : Answer ℕ → Result
   listed : List ℕ → Result
   compared : Answer ℕ → ℕ → List ℕ → Result
+  joined : Answer ℕ → ℕ → List ℕ → Result
 
 -- what a call gives back
 unfoldable pub perform : Call → Result
@@ -46,6 +49,7 @@ perform (starts r) = started (startOf r)
 perform (tells r) = told (startableOf r)
 perform (lists s) = listed (listing s)
 perform (compares s t space) = compared (diff.answer s t (length space)) (refusedImage s t) (diff.listed s t space)
+perform (joins s t out) = joined (join.answer s t (length out)) (refusedImage s t) (join.output s t out)
 
 -- a row of the table: a call, and what must come back
 pub record Row : Type 0 where

@@ -75,6 +75,20 @@ secondOfTwo =
     ++ (chunkHeader 0xCAC2 1 16
     ++ (replicate 4 0 ++ (chunkHeader 0xCAC2 2 16 ++ (replicate 4 0xFF ++ (chunkHeader 0xCAC1 1 16 ++ (upFrom 1 3 ++ (5 ∷ []))))))))
 
+-- request 7: an image of four blocks of 8 bytes that writes blocks 0 and 1, both raw, the second of them 0xFF all over
+abbrev pub firstUpdate : List ℕ
+firstUpdate = fileHeader 8 4 2 0 ++ (chunkHeader 0xCAC1 2 28 ++ (upFrom 1 8 ++ (replicate 8 0xFF ++ chunkHeader 0xCAC3 2 12)))
+
+-- and one that fills block 2 with 0xFF
+abbrev pub secondUpdate : List ℕ
+secondUpdate = fileHeader 8 4 3 0 ++ (chunkHeader 0xCAC3 2 12 ++ (chunkHeader 0xCAC2 1 16 ++ (replicate 4 0xFF ++ chunkHeader 0xCAC5 1 12)))
+
+-- the two as one: block 0 raw, blocks 1 and 2 filled, block 3 don't care
+abbrev pub bothUpdates : List ℕ
+bothUpdates =
+    fileHeader 8 4 3 0x9259A6C4
+    ++ (chunkHeader 0xCAC1 1 20 ++ (upFrom 1 8 ++ (chunkHeader 0xCAC2 2 16 ++ (replicate 4 0xFF ++ chunkHeader 0xCAC3 1 12))))
+
 -- P10: "version 3, kernel 4,097, ramdisk 1", of so many bytes
 abbrev pub boot3 : ℕ → List ℕ
 boot3 n =

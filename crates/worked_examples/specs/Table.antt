@@ -8,8 +8,8 @@ use lib.ListN.{replicate}
 use Rattle.rules.specs.Answer.{accepted, refused}
 use Rattle.slot_rules.specs.Answers as slots
 use Rattle.text_rules.specs.Words.{ascii}
-use Rattle.worked_examples.specs.Calls.{Row, perform, stores, writes, locates, starts, tells, lists, compares, stored, written, located, started, told, listed, compared}
-use Rattle.worked_examples.specs.Images.{emptyImage, twoChunks, p2, p7, counts, upFrom, flat, flatImage, firstOfTwo, secondOfTwo, boot3, boot2, section, none, layout, slot, corruptedSlot, two}
+use Rattle.worked_examples.specs.Calls.{Row, perform, stores, writes, locates, starts, tells, lists, compares, joins, stored, written, located, started, told, listed, compared, joined}
+use Rattle.worked_examples.specs.Images.{emptyImage, twoChunks, p2, p7, counts, upFrom, flat, flatImage, firstOfTwo, secondOfTwo, firstUpdate, secondUpdate, bothUpdates, boot3, boot2, section, none, layout, slot, corruptedSlot, two}
 
 -- P1: "writing 0 bytes at block size 4,096"
 abbrev pub row1 : Row
@@ -171,10 +171,18 @@ rowComparedGeometry = record { call = compares p2 flatImage (replicate 9 7); res
 abbrev pub rowComparedSecond : Row
 rowComparedSecond = record { call = compares p2 (flatImage ++ (0 ∷ [])) (replicate 9 7); result = compared (refused 10 64) 2 (replicate 9 7) }
 
--- P1 to P14, two of request 4, three of request 6, the lister's texts, and four of request 5
+-- request 7: "fill where all words agree and raw elsewhere, other blocks don't care", and the output past the image as it was
+abbrev pub rowJoined : Row
+rowJoined = record { call = joins firstUpdate secondUpdate (replicate 78 7); result = joined (accepted 76) 0 (bothUpdates ++ replicate 2 7) }
+
+-- "18 exactly when the output is too short, untouched then": one byte short
+abbrev pub rowJoinedShort : Row
+rowJoinedShort = record { call = joins firstUpdate secondUpdate (replicate 75 7); result = joined (refused 18 0) 0 (replicate 75 7) }
+
+-- P1 to P14, two of request 4, three of request 6, the lister's texts, four of request 5, and two of request 7
 abbrev pub table : List Row
 table =
-    row1 ∷ row2 ∷ row3 ∷ row4 ∷ row5 ∷ row6 ∷ row7 ∷ row8 ∷ row8One ∷ row9 ∷ row9Short ∷ row10 ∷ row10Short ∷ row11 ∷ row12 ∷ row13 ∷ row14 ∷ rowCorrupted ∷ rowNoCandidate ∷ rowCounted ∷ rowMiscounted ∷ rowMiscountedStart ∷ rowListed ∷ rowListedUnknown ∷ rowCompared ∷ rowComparedShort ∷ rowComparedGeometry ∷ rowComparedSecond ∷ []
+    row1 ∷ row2 ∷ row3 ∷ row4 ∷ row5 ∷ row6 ∷ row7 ∷ row8 ∷ row8One ∷ row9 ∷ row9Short ∷ row10 ∷ row10Short ∷ row11 ∷ row12 ∷ row13 ∷ row14 ∷ rowCorrupted ∷ rowNoCandidate ∷ rowCounted ∷ rowMiscounted ∷ rowMiscountedStart ∷ rowListed ∷ rowListedUnknown ∷ rowCompared ∷ rowComparedShort ∷ rowComparedGeometry ∷ rowComparedSecond ∷ rowJoined ∷ rowJoinedShort ∷ []
 
 -- every call of the table gives back what its row says
 abbrev pub Worked : Type 0

@@ -3,7 +3,8 @@
 use mathlib.Core.Path.{sym, ap, _∙_}
 use borrow.Author.Needs.{needs}
 use Rattle.sparse_blocks_rules.specs.Pairs.{answerOf}
-use Rattle.sparse_diff_rules.proofs.Answering.{found-matched, answers-refusal, answers-short, answers-listed}
+use Rattle.sparse_blocks_rules.proofs.Pairing.{found-matched}
+use Rattle.sparse_diff_rules.proofs.Answering.{answers-refusal, answers-short, answers-listed}
 use Rattle.sparse_diff.proofs.compare.Statement.{statement}
 use Rattle.sparse_diff.proofs.compare.Tie as tie
 

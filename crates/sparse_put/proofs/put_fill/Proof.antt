@@ -19,7 +19,7 @@ room-requires c κs = search needs
 returns : tie.Need-returns
 returns c =
     let a = c .before .before .before .args in
-    sym (fill-none (a .blocks) (a .word) (a .out .now) (a .at) (omega arith))
+    sym (fill-none (a .blocks) (a .word) (a .total) (a .out .now) (a .at) (omega arith))
 
 put-head-requires : tie.Need-put-head-requires
 put-head-requires c κs = search needs
@@ -38,7 +38,7 @@ returns-2 c =
     let word = c .before .before in
     let head = word .before .before .before .before in
     let a = head .before .before .before .before .before .args in
-    fill-put (a .blocks) (a .word) (a .out .now) (a .at) (room (head .before .before)) (head .put-head .ensures) (word .write32 .ensures)
+    fill-put (a .blocks) (a .word) (a .total) (a .out .now) (a .at) (room (head .before .before)) (head .put-head .ensures) (word .write32 .ensures)
 
 pub put-fill-spec : {M : Type 1} → statement M
 put-fill-spec =

@@ -6,8 +6,8 @@ use native.Mathlib.Omega.{arith}
 use borrow.Author.Needs.{needs}
 use lib.ListN.{length}
 use Rattle.sparse_write_rules.specs.Kinds.{raw, allEqual, storedKind}
-use Rattle.sparse_scan.specs.Numbered.{kindNumbered}
-use Rattle.sparse_scan.proofs.Numbered.{one-number, number-fill}
+use Rattle.sparse_write_rules.specs.Numbered.{kindNumbered}
+use Rattle.sparse_write_rules.proofs.Numbered.{one-number, number-fill}
 use Rattle.sparse_write_rules.proofs.KindSteps.{kind-raw, kind-fill}
 use Rattle.sparse_scan.proofs.Scanning.{Rest, rest-next, rest-differs, rest-done, rest-first, Scanned, scan-start, scan-room, scan-on, scan-stop, scan-end}
 use Rattle.sparse_scan.proofs.count_alike.Statement.{statement}

@@ -7,7 +7,7 @@ use native.Mathlib.Omega.{arith}
 use lib.ListN.{length}
 use Rattle.sparse_write_rules.specs.Kinds.{storedKind}
 use Rattle.sparse_write_rules.proofs.Runs.{one-less}
-use Rattle.sparse_scan.specs.Numbered.{kindNumbered}
+use Rattle.sparse_write_rules.specs.Numbered.{kindNumbered}
 use Rattle.sparse_scan.specs.Scan.{runBlocks, afterRun}
 use Rattle.sparse_scan.proofs.Whole.{whole-some}
 use Rattle.sparse_scan.proofs.Scanning.{run-none, run-some}

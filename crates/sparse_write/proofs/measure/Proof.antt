@@ -5,8 +5,10 @@ use native.Mathlib.Omega.{arith}
 use borrow.Author.Needs.{needs}
 use lib.ListN.{length}
 use Rattle.sparse_write_rules.specs.Kinds.{storedKind}
+use Rattle.sparse_write_rules.specs.Numbered.{kindNumbered}
+use Rattle.sparse_write_rules.proofs.Chunks.{size-most}
 use Rattle.sparse_scan.proofs.Scanning.{FirstRun}
-use Rattle.sparse_write.proofs.Passes.{ahead-start, ahead-run, ahead-inside, ahead-stored, Measured, measure-start, measure-step, measure-done}
+use Rattle.sparse_write.proofs.Passes.{ahead-start, ahead-run, ahead-inside, Measured, measure-start, measure-step, measure-done}
 use Rattle.sparse_write.proofs.measure.Statement.{statement}
 use Rattle.sparse_write.proofs.measure.Tie as tie
 
@@ -38,11 +40,14 @@ loop-holds c =
 first-run-requires : tie.Need-first-run-requires Inv-loop μ-loop
 first-run-requires c κs = search needs
 
+cast-chunk-size : tie.Need-cast-chunk-size Inv-loop μ-loop
+cast-chunk-size c = omega (arith, inside c)
+
 chunk-size-requires : tie.Need-chunk-size-requires Inv-loop μ-loop
-chunk-size-requires c κs = (ahead-stored (c .before .before .loop .inv .ahead) (run c) (c .before .loop-test .taken), omega (arith, inside c))
+chunk-size-requires c κs = search needs
 
 add-bytes : tie.Need-add-bytes Inv-loop μ-loop
-add-bytes c = omega (arith, inside (c .before), c .before .before .before .loop .inv .small, c .chunk-size .ensures .1)
+add-bytes c = omega (arith, inside (c .before), c .before .before .before .loop .inv .small, c .chunk-size .ensures, size-most (kindNumbered (c .before .before .before .loop .kind)) (c .before .first-run .result .len))
 
 add-count : tie.Need-add-count Inv-loop μ-loop
 add-count c = omega (arith, inside (c .before), c .before .before .before .loop .inv .few)
@@ -57,7 +62,7 @@ loop-less : tie.Need-loop-less Inv-loop μ-loop
 loop-less c = omega (arith, run (c .before) .some, run (c .before) .fits)
 
 loop-again : tie.Need-loop-again Inv-loop μ-loop
-loop-again c = measure-step (c .chunk-size .result) (c .before .before .before .before .before .before .pre .1) (c .before .before .before .loop .inv) (run (c .before)) (c .chunk-size .ensures .0)
+loop-again c = measure-step (c .chunk-size .result) (c .before .before .before .before .before .before .pre .1) (c .before .before .before .loop .inv) (run (c .before)) (c .chunk-size .ensures)
 
 returns : tie.Need-returns Inv-loop μ-loop
 returns c = measure-done (omega arith) (c .before .loop .inv)
@@ -71,6 +76,7 @@ measure-spec =
     first-kind-requires
     loop-holds
     first-run-requires
+    cast-chunk-size
     chunk-size-requires
     add-bytes
     add-count

@@ -76,15 +76,16 @@ put-chunk-requires c κs =
       put-holds (l .inv) q small (start .pre .2) some,
     )
 
+cast-chunk-size : tie.Need-cast-chunk-size Inv-loop μ-loop
+cast-chunk-size c = omega (arith, inside (c .before .before .before .before .before))
+
 chunk-size-requires : tie.Need-chunk-size-requires Inv-loop μ-loop
-chunk-size-requires c κs =
-    let ran = c .before .before .before .before .before in
-    (ahead-stored (ran .before .before .loop .inv .ahead) (run ran) (ran .before .loop-test .taken), omega (arith, inside ran))
+chunk-size-requires c κs = search needs
 
 add-pos : tie.Need-add-pos Inv-loop μ-loop
 add-pos c =
     let ran = c .before .before .before .before .before .before in
-    omega (arith, c .chunk-size .ensures .0, put-fits (ran .before .before .loop .inv) (run ran))
+    omega (arith, c .chunk-size .ensures, put-fits (ran .before .before .loop .inv) (run ran))
 
 sub-left : tie.Need-sub-left Inv-loop μ-loop
 sub-left c = omega (arith, run (c .before .before .before .before .before .before) .fits)
@@ -97,7 +98,7 @@ loop-less c =
 loop-again : tie.Need-loop-again Inv-loop μ-loop
 loop-again c =
     let ran = c .before .before .before .before .before .before in
-    put-step (ran .before .before .loop .inv) (run ran) (c .chunk-size .result) _ _ (c .chunk-size .ensures .0)
+    put-step (ran .before .before .loop .inv) (run ran) (c .chunk-size .result) _ _ (c .chunk-size .ensures)
     (c .before .before .before .put-chunk .ensures .0) (c .before .before .before .put-chunk .ensures .1)
 
 same-length : tie.Need-same-length Inv-loop μ-loop
@@ -122,6 +123,7 @@ put-chunks-spec =
     part-put-chunk-end
     cast-put-chunk
     put-chunk-requires
+    cast-chunk-size
     chunk-size-requires
     add-pos
     sub-left

@@ -51,6 +51,9 @@ case-requires-4 c κs = search needs
 block-requires-2 : tie.Need-block-requires-2 Inv-loop μ-loop
 block-requires-2 c κs = search needs
 
+block-requires-3 : tie.Need-block-requires-3 Inv-loop μ-loop
+block-requires-3 c κs = search needs
+
 slice-aggregate-write-all : tie.Need-slice-aggregate-write-all Inv-loop μ-loop
 slice-aggregate-write-all c = search needs
 
@@ -89,8 +92,9 @@ cases-spec =
     boot-requires
     sparse-requires
     write-requires
-    case-requires-4
     block-requires-2
+    case-requires-4
+    block-requires-3
     slice-aggregate-write-all
     write-all-requires-2
     past-requires

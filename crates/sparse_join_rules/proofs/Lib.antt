@@ -1,0 +1,7 @@
+pub mod Answering
+pub mod Blocks
+pub mod Theorems
+pub mod Measuring
+pub mod Laying
+pub mod Fronts
+pub mod Joining

@@ -1,0 +1,5 @@
+pub mod Join
+pub mod Image
+pub mod Ahead
+pub mod Grows
+pub mod Theorems
