@@ -5,11 +5,11 @@ ghost use Prim.Native.Nat.{_<_};
 ghost use Rattle.sparse_rules.specs.Counts.{writes};
 ghost use Rattle.sparse_blocks_rules.specs.Beside.{Beside, InFront};
 ghost use Rattle.sparse_diff_rules.specs.Diff.{change};
-use sparse_blocks::is_raw;
 use sparse_blocks::least;
-use sparse_blocks::same_block;
 use sparse_blocks::writes;
 use sparse_blocks_rules::Reader;
+use sparse_same::is_raw;
+use sparse_same::same_block;
 
 // So many blocks in front have one kind of change.
 pub(crate) struct Change {

@@ -64,7 +64,7 @@ pub fn compare(first: &[u8], second: &[u8], space: &mut [u32]) -> Paired
     ensures image { λ r. ⌜ imageOf r ≡ refusedImage (now (first .entry)) (now (second .entry)) ⌝ }
     ensures contents { λ _. ⌜ now (space .exit) ≡ listed (now (first .entry)) (now (second .entry)) (now (space .entry)) ⌝ }
 {
-    let found = sparse_blocks::matched(first, second);
+    let found = sparse_match::matched(first, second);
     let Paired::Done(_) = found else {
         return found;
     };

@@ -13,7 +13,7 @@ use Rattle.fields_rules.proofs.Sets.{sets-whole}
 use Rattle.sparse_rules.specs.declared.Header.{Header}
 use Rattle.sparse_rules.specs.Header.{headerOf, totalBlocks}
 use Rattle.sparse_blocks_rules.specs.Pairs.{pairAnswer, refusedImage, Matched}
-use Rattle.sparse_blocks_rules.proofs.Pairing.{pair-refused, pair-accepted, pair-passed}
+use Rattle.sparse_blocks_rules.proofs.Pairing.{pair-refused, pair-passed}
 use Rattle.sparse_diff_rules.specs.Diff.{diff, numbers, spaceTests, answer, listed}
 use Rattle.sparse_diff_rules.specs.Laid.{laid}
 use Rattle.sparse_diff_rules.proofs.Laying.{length-numbers, laid-whole}

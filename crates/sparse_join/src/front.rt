@@ -1,6 +1,5 @@
 // The next blocks of two images, joined: the second's where it writes them, and else the first's. As many are taken at a time
 // as both chunks have and are of one kind.
-ghost use mathlib.Core.Path.{_≡_};
 ghost use Prim.Native.Nat.{_≤_, _<_};
 ghost use Rattle.sparse_rules.specs.Facts.{Summable};
 ghost use Rattle.sparse_blocks_rules.specs.Beside.{Beside};

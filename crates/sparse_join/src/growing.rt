@@ -29,8 +29,8 @@ pub(crate) fn ended(g: Growing, kind: u64, block: u32) -> Growing
             blocks: 0,
         };
     }
-    let len = g.blocks * block;
-    let size = sparse_put::chunk_size(g.kind, len);
+    let len = sparse_read::bytes_of(g.blocks, block);
+    let size = sparse_put::chunk_size(g.kind, len as u32);
     Growing {
         at: g.at + size as usize,
         chunks: g.chunks + 1,
@@ -44,7 +44,8 @@ pub(crate) fn turned_to(g: Growing, kind: u64, block: u32) -> Growing
     requires { ⌜ (g .blocks * block ≤ 2147483648) × (g .at < 1099511627776) × (g .chunks < 4294967295) ⌝ }
     ensures { λ r. ⌜ r ≡ turnedTo block g kind ⌝ }
 {
-    if kind == g.kind {
+    let last = g.kind;
+    if kind == last {
         return g;
     }
     ended(g, kind, block)

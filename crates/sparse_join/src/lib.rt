@@ -81,7 +81,7 @@ pub fn join(first: &[u8], second: &[u8], out: &mut [u8]) -> Paired
     ensures image { λ r. ⌜ imageOf r ≡ refusedImage (now (first .entry)) (now (second .entry)) ⌝ }
     ensures contents { λ _. ⌜ now (out .exit) ≡ output (now (first .entry)) (now (second .entry)) (now (out .entry)) ⌝ }
 {
-    let found = sparse_blocks::matched(first, second);
+    let found = sparse_match::matched(first, second);
     let Paired::Done(_) = found else {
         return found;
     };

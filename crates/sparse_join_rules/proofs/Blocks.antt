@@ -1,4 +1,4 @@
--- Joined blocks: how many there are, that they fit, that grouping makes no difference, and the cells that they are.
+-- Joined blocks: the cells that they are, that they fit, that grouping makes no difference, and how many there are.
 -- Assumes nothing.
 use mathlib.Core.Path.{_≡_, refl, sym, ap, ap₂, _∙_}
 use mathlib.Core.Option.{Option, none, some}
@@ -18,29 +18,7 @@ use Rattle.sparse_blocks_rules.proofs.SideBySide.{length-each, each-at, as-many
 use Rattle.sparse_join_rules.specs.Join.{onto, joinedBlocks}
 use Rattle.sparse_join_rules.specs.Theorems.{Joinable}
 
--- ---- blocks one onto another
-
--- where both fit, what they make fits
-pub fit-onto : (b : ℕ) (xs ys : List Block) → AllFit b xs → AllFit b ys → AllFit b (each onto xs ys)
-unfolding each
-fit-onto b [] ys f g = tt
-fit-onto b (x ∷ xs) [] f g = tt
-fit-onto b (x ∷ xs) (none ∷ ys) f g = (f .0, fit-onto b xs ys (f .1) (g .1))
-fit-onto b (x ∷ xs) (some y ∷ ys) f g = (g .0, fit-onto b xs ys (f .1) (g .1))
-
-onto-group : (x y z : Block) → onto (onto x y) z ≡ onto x (onto y z)
-onto-group x y none = refl
-onto-group x y (some z) = refl
-
--- grouping of three makes no difference
-pub group-onto : (xs ys zs : List Block) → each onto (each onto xs ys) zs ≡ each onto xs (each onto ys zs)
-unfolding each
-group-onto [] ys zs = refl
-group-onto (x ∷ xs) [] zs = refl
-group-onto (x ∷ xs) (y ∷ ys) [] = refl
-group-onto (x ∷ xs) (y ∷ ys) (z ∷ zs) = ap₂ (λ (v : Block) (r : List Block). v ∷ r) (onto-group x y z) (group-onto xs ys zs)
-
--- ---- their cells
+-- ---- the cells of blocks one onto another
 
 cells-one : (b : ℕ) (x y : Block) → Fits b x → Fits b y → cellsOfBlock b (onto x y) ≡ laters (cellsOfBlock b y) (cellsOfBlock b x)
 cells-one b x none f g =
@@ -67,6 +45,28 @@ over-onto b xs ys p f g e =
     ap (λ (cs : List (Option ℕ)). over cs p) (cells-onto b xs ys f g e)
     ∙ over-laters (blockCells b ys) (blockCells b xs) p
     (length-blockCells b ys g ∙ ap (λ (n : ℕ). n * b) e ∙ sym (length-blockCells b xs f))
+
+-- ---- such blocks fit, and can be grouped
+
+-- where both fit, what they make fits
+pub fit-onto : (b : ℕ) (xs ys : List Block) → AllFit b xs → AllFit b ys → AllFit b (each onto xs ys)
+unfolding each
+fit-onto b [] ys f g = tt
+fit-onto b (x ∷ xs) [] f g = tt
+fit-onto b (x ∷ xs) (none ∷ ys) f g = (f .0, fit-onto b xs ys (f .1) (g .1))
+fit-onto b (x ∷ xs) (some y ∷ ys) f g = (g .0, fit-onto b xs ys (f .1) (g .1))
+
+onto-group : (x y z : Block) → onto (onto x y) z ≡ onto x (onto y z)
+onto-group x y none = refl
+onto-group x y (some z) = refl
+
+-- grouping of three makes no difference
+pub group-onto : (xs ys zs : List Block) → each onto (each onto xs ys) zs ≡ each onto xs (each onto ys zs)
+unfolding each
+group-onto [] ys zs = refl
+group-onto (x ∷ xs) [] zs = refl
+group-onto (x ∷ xs) (y ∷ ys) [] = refl
+group-onto (x ∷ xs) (y ∷ ys) (z ∷ zs) = ap₂ (λ (v : Block) (r : List Block). v ∷ r) (onto-group x y z) (group-onto xs ys zs)
 
 -- ---- the blocks of two images
 

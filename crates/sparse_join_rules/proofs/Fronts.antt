@@ -2,17 +2,17 @@
 -- Assumes nothing.
 use mathlib.Core.Path.{_≡_, refl, sym, ap, ap₂, _∙_}
 use mathlib.Core.Bool.{Bool, true, false}
-use mathlib.Core.Option.{none, some}
-use mathlib.Core.List.{List, [], _∷_, map}
+use mathlib.Core.Option.{some}
+use mathlib.Core.List.{List, _∷_, map}
 use Prim.Native.Nat.{ℕ, zero, suc, _+_, _*_, _/_, _%_, min, _≤_, _<_}
 use native.Mathlib.Nat.{suc-mul, zero-lt-suc, mul-le-mul-right}
 use native.Mathlib.Omega.{arith}
-use lib.ListN.{length, getD, take, drop, replicate}
+use lib.ListN.{length, take, drop, replicate}
 use lib.Seq.{getD-take, getD-drop}
 use Rattle.fields_rules.specs.Number.{numberAt}
 use Rattle.fields_rules.proofs.Laws.{number-same}
 use Rattle.sparse_rules.specs.declared.Kind.{Kind}
-use Rattle.sparse_rules.specs.declared.Kind.the-variants.{Raw, Fill, DontCare, Unknown}
+use Rattle.sparse_rules.specs.declared.Kind.the-variants.{Raw, Fill}
 use Rattle.sparse_rules.specs.declared.Chunk.{Chunk}
 use Rattle.sparse_rules.specs.Counts.{writes}
 use Rattle.sparse_rules.specs.Cells.{tab, rawByte, fillByte, cellsOf, zeroed}
@@ -31,7 +31,7 @@ use Rattle.sparse_blocks_rules.proofs.Comparing as blocks
 use Rattle.sparse_blocks_rules.proofs.Giving.{cells-stretch}
 use Rattle.sparse_blocks_rules.proofs.SideBySide.{both-have}
 use Rattle.sparse_join_rules.specs.Join.{onto}
-use Rattle.sparse_join_rules.specs.Ahead.{Alike, FirstAlike, joinedAhead, JoinedAlike}
+use Rattle.sparse_join_rules.specs.Ahead.{FirstAlike, joinedAhead, JoinedAlike}
 
 -- ---- the kind of a block, by its chunk
 

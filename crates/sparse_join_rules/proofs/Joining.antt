@@ -1,7 +1,7 @@
 -- What the two passes over two images keep: the one that measures the joined image, and the one that lays it into the output.
 -- Assumes nothing.
-use mathlib.Core.Path.{_≡_, refl, sym, ap, ap₂, subst, _∙_}
-use mathlib.Core.List.{List, [], _++_, map}
+use mathlib.Core.Path.{_≡_, sym, ap, ap₂, subst, _∙_}
+use mathlib.Core.List.{List, _++_, map}
 use Prim.Native.Nat.{ℕ, _+_, _*_, _≤_, _<_}
 use native.Mathlib.Nat.{mul-le-mul-right}
 use native.Mathlib.Omega.{arith}
@@ -38,7 +38,7 @@ use Rattle.sparse_join_rules.specs.Image.{joinedBytes, joinedRuns, joine
 use Rattle.sparse_join_rules.specs.Ahead.{Alike, joinedAhead, JoinedAlike}
 use Rattle.sparse_join_rules.specs.Grows.{begun, endOf, countOf, turnedTo, lengthened, putInto}
 use Rattle.sparse_join_rules.proofs.Blocks.{length-joined}
-use Rattle.sparse_join_rules.proofs.Measuring.{turned-kind, alike-many, Measured, measure-start, measure-turn, measure-more, measure-fits, measure-done}
+use Rattle.sparse_join_rules.proofs.Measuring.{Measured, measure-start, measure-turn, measure-more, measure-fits, measure-done}
 use Rattle.sparse_join_rules.proofs.Laying.{Laid, lay-start, lay-long, lay-turn, lay-more, lay-done}
 use Rattle.sparse_join_rules.proofs.Fronts.{ahead-long}
 

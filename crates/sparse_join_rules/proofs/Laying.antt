@@ -2,14 +2,14 @@
 -- Assumes nothing.
 use mathlib.Core.Path.{_≡_, refl, sym, ap, ap₂, _∙_}
 use mathlib.Core.Bool.{Bool, true, false, cond}
-use mathlib.Core.List.{List, [], _∷_, _++_, append-assoc, append-nil}
+use mathlib.Core.List.{List, [], _++_, append-assoc, append-nil}
 use Prim.Native.Nat.{ℕ, zero, suc, _+_, _*_, _≤_, _<_}
-use native.Mathlib.Nat.{add-mul, add-zero}
+use native.Mathlib.Nat.{add-mul}
 use native.Mathlib.Omega.{arith}
 use borrow.Author.Tests.{eqb-false}
 use lib.Dec.{eqb}
-use lib.ListN.{length, take, drop, length-append, length-drop}
-use lib.Seq.{sets, length-sets, drop-drop, take-at, drop-at}
+use lib.ListN.{length, take, drop, length-append}
+use lib.Seq.{sets, length-sets, drop-drop, drop-at}
 use Rattle.fields_rules.specs.Number.{placed}
 use Rattle.fields_rules.proofs.Sets.{sets-append, sets-anew}
 use Rattle.crc32_rules.specs.Crc.{crcFrom, allOnes}
@@ -22,7 +22,7 @@ use Rattle.sparse_rules.proofs.Cells.{length-tab, zeroed-append, zeroed-raw}
 use Rattle.sparse_rules.proofs.Image.{chunk-cells}
 use Rattle.sparse_rules.proofs.SumLaws.{raw-inside}
 use Rattle.sparse_write_rules.specs.Blocks.{Block, blockCells}
-use Rattle.sparse_write_rules.specs.Kinds.{BlockKind, kept, raw, fill}
+use Rattle.sparse_write_rules.specs.Kinds.{BlockKind}
 use Rattle.sparse_write_rules.specs.Numbered.{kindNumbered}
 use Rattle.sparse_write_rules.specs.Runs.{Run, closed}
 use Rattle.sparse_write_rules.specs.Encode.{chunkSize, chunk, chunks}

@@ -1,31 +1,23 @@
 -- An image as it grows: how long it is, what stands of it in an output, and its checksum's state, with the blocks that come after.
 -- Assumes nothing.
-use mathlib.Core.Path.{_≡_, refl, sym, ap, ap₂, subst, _∙_}
+use mathlib.Core.Path.{_≡_, refl, sym, ap, ap₂, _∙_}
 use mathlib.Core.Bool.{Bool, true, false, cond}
 use mathlib.Core.List.{List, [], _∷_, _++_, map, append-assoc}
-use Prim.Native.Nat.{ℕ, zero, suc, _+_, _-_, _*_, _≤_, _<_}
-use native.Mathlib.Nat.{zero-lt-suc, not-suc-le-zero, add-mul, mul-le-mul-right}
+use Prim.Native.Nat.{ℕ, zero, suc, _+_, _-_, _*_, _≤_}
+use native.Mathlib.Nat.{mul-le-mul-right}
 use native.Mathlib.Omega.{arith}
 use borrow.Author.Tests.{eqb-true, eqb-false, eq-eqb, ne-eqb}
 use lib.Dec.{eqb}
-use lib.ListN.{length, take, drop, replicate, length-append, length-drop, length-map, length-replicate, replicate-append-replicate}
-use lib.Seq.{sets, length-sets, drop-drop, take-at, drop-at}
-use Rattle.fields_rules.specs.Number.{placed}
-use Rattle.fields_rules.proofs.Sets.{sets-append, sets-anew}
-use Rattle.crc32_rules.specs.Crc.{crcFrom, allOnes}
-use Rattle.crc32_rules.proofs.Laws.{crc-nil, crc-append}
-use Rattle.sparse_rules.specs.Cells.{tab, rawByte, zeroed}
-use Rattle.sparse_rules.proofs.Cells.{length-tab, zeroed-append}
-use Rattle.sparse_write_rules.specs.Blocks.{Block, blockCells}
-use Rattle.sparse_write_rules.specs.Kinds.{BlockKind, kept, raw, fill, sameKind, blockKind}
+use lib.ListN.{length, replicate, length-append, length-map, length-replicate, replicate-append-replicate}
+use Rattle.sparse_write_rules.specs.Blocks.{Block}
+use Rattle.sparse_write_rules.specs.Kinds.{BlockKind, sameKind, blockKind}
 use Rattle.sparse_write_rules.specs.Numbered.{kindNumbered}
 use Rattle.sparse_write_rules.specs.Runs.{Run, runs, closed}
-use Rattle.sparse_write_rules.specs.Encode.{chunkSize, chunk, chunks}
-use Rattle.sparse_write_rules.specs.Parts.{chunkTop, chunkRest, sizes}
+use Rattle.sparse_write_rules.specs.Encode.{chunkSize, chunks}
+use Rattle.sparse_write_rules.specs.Parts.{sizes}
 use Rattle.sparse_write_rules.proofs.Runs.{of, tells-kinds, closed-last, closed-before, begins, counted}
 use Rattle.sparse_write_rules.proofs.Numbered.{one-number}
-use Rattle.sparse_write_rules.proofs.KindCells.{raw-split, raw-part}
-use Rattle.sparse_write_rules.proofs.Chunks.{chunks-nil, chunks-cons, chunk-parts, length-top, length-raw, length-chunks, chunks-append, sizes-append, size-grows}
+use Rattle.sparse_write_rules.proofs.Chunks.{sizes-append, size-grows}
 use Rattle.sparse_join_rules.specs.declared.Growing.{Growing}
 use Rattle.sparse_join_rules.specs.Ahead.{Alike}
 use Rattle.sparse_join_rules.specs.Grows.{begun, lastRun, runsWith, endOf, countOf, endedFor, turnedTo, lengthened}

@@ -1,7 +1,6 @@
 -- `sparse_join::measure` meets its contract. The loop's invariant: what is measured and the blocks that are left make up the image.
 -- Assumes nothing.
 use mathlib.Core.Path.{_≡_, ap, _∙_}
-use Prim.Native.Nat.{ℕ}
 use native.Mathlib.Omega.{arith}
 use borrow.Author.Needs.{needs}
 use lib.ListN.{length}
