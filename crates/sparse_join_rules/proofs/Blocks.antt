@@ -102,6 +102,17 @@ module _ {s t : List ℕ} (j : Joinable s t) where
         small = rw (length-joined (j .matched)) (j .small);
       }
 
+  -- their cells are the second image's where it stores the byte, and else the first's
+  pub cells-joined : blockCells (blockSize s) (joinedBlocks s t) ≡ laters (blockCells (blockSize s) (blocks t)) (blockCells (blockSize s) (blocks s))
+  unfolding joinedBlocks
+  cells-joined = cells-onto (blockSize s) (blocks s) (blocks t) first-fit second-fit (as-many (j .matched))
+
+  -- as many for the one as for the other
+  pub cells-many : length (blockCells (blockSize s) (blocks t)) ≡ length (blockCells (blockSize s) (blocks s))
+  cells-many =
+      length-blockCells (blockSize s) (blocks t) second-fit ∙ ap (λ (n : ℕ). n * blockSize s) (as-many (j .matched))
+      ∙ sym (length-blockCells (blockSize s) (blocks s) first-fit)
+
   -- laid over a partition, they leave what the first image's and then the second's leave
   pub over-joined : (p : List ℕ)
       → over (blockCells (blockSize s) (joinedBlocks s t)) p ≡ over (blockCells (blockSize s) (blocks t)) (over (blockCells (blockSize s) (blocks s)) p)

@@ -1,8 +1,8 @@
--- An image as it grows: how long it is, what stands of it in an output, and its checksum's state, with the blocks that come after.
+-- An image as it grows: how long it is and how many chunks it has, with the blocks that come after.
 -- Assumes nothing.
 use mathlib.Core.Path.{_≡_, refl, sym, ap, ap₂, _∙_}
 use mathlib.Core.Bool.{Bool, true, false, cond}
-use mathlib.Core.List.{List, [], _∷_, _++_, map, append-assoc}
+use mathlib.Core.List.{List, [], _∷_, _++_, map, append-assoc, map-append}
 use Prim.Native.Nat.{ℕ, zero, suc, _+_, _-_, _*_, _≤_}
 use native.Mathlib.Nat.{mul-le-mul-right}
 use native.Mathlib.Omega.{arith}
@@ -24,17 +24,13 @@ use Rattle.sparse_join_rules.specs.Grows.{begun, lastRun, runsWith, endO
 
 -- ---- runs
 
-kinds-append : (b : ℕ) (ps xs : List Block) → map (blockKind b) (ps ++ xs) ≡ map (blockKind b) ps ++ map (blockKind b) xs
-kinds-append b [] xs = refl
-kinds-append b (p ∷ ps) xs = ap (λ (r : List BlockKind). blockKind b p ∷ r) (kinds-append b ps xs)
-
 module _ {b : ℕ} {ps : List Block} {kind n : ℕ} (p : Alike b ps kind n) where
   -- as many as are said
   pub alike-many : length ps ≡ n
   alike-many = sym (length-map ps (blockKind b)) ∙ ap length (p .kinds) ∙ length-replicate n (kindNumbered kind)
 
   kinds-ahead : (xs : List Block) → map (blockKind b) (ps ++ xs) ≡ replicate n (kindNumbered kind) ++ map (blockKind b) xs
-  kinds-ahead xs = kinds-append b ps xs ∙ ap (λ (r : List BlockKind). r ++ map (blockKind b) xs) (p .kinds)
+  kinds-ahead xs = map-append (blockKind b) ps xs ∙ ap (λ (r : List BlockKind). r ++ map (blockKind b) xs) (p .kinds)
 
   -- of the last chunk's kind: they lengthen it
   pub runs-more : (g : Growing) → g .kind ≡ kind → (xs : List Block) → runsWith b g (ps ++ xs) ≡ runsWith b (lengthened g n) xs

@@ -1,18 +1,21 @@
 -- What holds of joined images, and of what is answered about them.
 -- Assumes nothing.
 use mathlib.Core.Path.{_≡_}
+use mathlib.Core.Bool.{true, false}
 use mathlib.Core.Option.{none}
 use mathlib.Core.List.{List, [], _∷_, _++_}
 use Prim.Native.Nat.{ℕ, _≤_, _<_}
 use lib.ListN.{length, getD, take}
 use Rattle.rules.specs.Answer.{accepted, refused, HasNumber}
 use Rattle.fields_rules.specs.Number.{Bytes}
-use Rattle.sparse_rules.specs.Header.{blockSize, totalBlocks}
+use Rattle.sparse_rules.specs.Header.{blockSize, totalBlocks, blockSizeRight}
+use Rattle.sparse_rules.specs.Answers as judge
 use Rattle.sparse_store_rules.specs.Store.{store}
-use Rattle.sparse_store_rules.specs.Runs.{run, Reached}
+use Rattle.sparse_store_rules.specs.Runs.{run, answers, lastGiven, Reached, Disturbed}
+use Rattle.sparse_write_rules.specs.Write.{flatImage, lengthWrong}
 use Rattle.sparse_write_rules.specs.Theorems.{ReadsAs}
 use Rattle.sparse_blocks_rules.specs.Blocks.{needed, blocks}
-use Rattle.sparse_blocks_rules.specs.Pairs.{pairAnswer, refusedImage, Matched}
+use Rattle.sparse_blocks_rules.specs.Pairs.{pairAnswer, refusedImage, Accepted, Matched}
 use Rattle.sparse_join_rules.specs.Join.{onto, joinedBlocks, join, answer, output, bound}
 
 -- two images of bytes that can be joined: accepted, "of equal block size and total", and not too large
@@ -43,9 +46,9 @@ pub record Joined (s t : List ℕ) : Type 0 where
 abbrev pub Joins : Type 0
 Joins = (s t : List ℕ) → Joinable s t → Joined s t
 
--- two images that leave the same on every partition with so much room
+-- two images that leave the same on every partition, of bytes, with so much room
 abbrev pub EqualEffect : List ℕ → List ℕ → ℕ → Type 0
-EqualEffect i j room = (p : List ℕ) → room ≤ length p → store i p ≡ store j p
+EqualEffect i j room = (p : List ℕ) → Bytes p → room ≤ length p → store i p ≡ store j p
 
 -- "two joined images of equal block size and total have equal effect on every such partition exactly when their bytes are equal"
 pub record Canonical (s t u v : List ℕ) : Type 0 where
@@ -69,12 +72,28 @@ pub record Grouping (s t u : List ℕ) : Type 0 where
 abbrev pub Groupings : Type 0
 Groupings = (s t u : List ℕ) → Joinable s t → Joinable t u → Grouping s t u
 
+-- "the header as our writer's": an image that our writer makes, joined to any, is itself
+abbrev pub AsWriter : Type 0
+AsWriter = (s d : List ℕ) (b : ℕ) → Bytes d → blockSizeRight b ≡ true → lengthWrong (length d) b ≡ false → Joinable s (flatImage d b)
+    → join s (flatImage d b) ≡ flatImage d b
+
 -- two neighbours in a list of images, replaced by their joining: demand 3 goes on to hold
 pub record Replaced (before after : List (List ℕ)) (s t p : List ℕ) : Type 0 where
   -- a full run leaves the same partition
   pub same : run (before ++ join s t ∷ after) p ≡ run (before ++ s ∷ t ∷ after) p
   -- as does a full run after any number of runs of the shorter list, each cut anywhere
   pub restarts : (q : List ℕ) → Reached (before ++ join s t ∷ after) p q → run (before ++ join s t ∷ after) q ≡ run (before ++ s ∷ t ∷ after) p
+  -- and after any number of runs of the longer one
+  pub goes-over : (q : List ℕ) → Reached (before ++ s ∷ t ∷ after) p q → run (before ++ join s t ∷ after) q ≡ run (before ++ s ∷ t ∷ after) p
+  -- the last image to store a byte gives it the same
+  pub given : (i : ℕ) → lastGiven (before ++ join s t ∷ after) (length p) i ≡ lastGiven (before ++ s ∷ t ∷ after) (length p) i
+  -- so at every moment bytes that none of the longer list stores are the original ones
+  pub moments : (q : List ℕ) → Reached (before ++ join s t ∷ after) p q → Disturbed (before ++ s ∷ t ∷ after) p q
+  -- every other image gets the same answer
+  pub shorter : answers (before ++ join s t ∷ after) p
+      ≡ answers before p ++ judge.answer (join s t) (length (join s t)) (length p) ∷ answers after p
+  pub longer : answers (before ++ s ∷ t ∷ after) p
+      ≡ answers before p ++ judge.answer s (length s) (length p) ∷ judge.answer t (length t) (length p) ∷ answers after p
 
 -- in every list, on every partition
 abbrev pub Replacements : Type 0
@@ -97,6 +116,18 @@ pub record Told (s t : List ℕ) (room : ℕ) : Type 0 where
 abbrev pub Answered : Type 0
 Answered = (s t : List ℕ) (room : ℕ) → Matched s t → Told s t room
 
+-- and what 17 and 18 say
+pub record Only (s t : List ℕ) (room place : ℕ) : Type 0 where
+  -- both images are accepted, and of equal block size and total only where these are too large
+  pub large : answer s t room ≡ refused 17 place
+      → Accepted s × Accepted t × (blockSize s ≡ blockSize t → totalBlocks s ≡ totalBlocks t → 2147483648 < needed s)
+  -- the images match, are not too large, and the output is too short
+  pub short : answer s t room ≡ refused 18 place → Matched s t × (needed s ≤ 2147483648) × (room < length (join s t))
+
+-- of every two images
+abbrev pub Onlys : Type 0
+Onlys = (s t : List ℕ) (room place : ℕ) → Only s t room place
+
 -- what a length that is answered says
 pub record Written (s t out : List ℕ) (n : ℕ) : Type 0 where
   -- the images match, and are not too large
@@ -109,6 +140,8 @@ pub record Written (s t out : List ℕ) (n : ℕ) : Type 0 where
   pub start : take n (output s t out) ≡ join s t
   -- and the output past it is as it was
   pub past : (i : ℕ) → n ≤ i → getD (output s t out) i 0 ≡ getD out i 0
+  -- images of bytes can be joined, so storing what is written leaves what storing the first and then the second leaves
+  pub leaves : Bytes s → Bytes t → (p : List ℕ) → store (take n (output s t out)) p ≡ store t (store s p)
 
 -- the output
 pub record Kept : Type 0 where

@@ -104,19 +104,23 @@ unfolding cutAnswer cutAnswerFor
 cut-numbers limit s room =
     onward-number (judged s (length s) room) (λ ks. accepted (min limit (written ks))) (refusal-numbers .images s (length s) room) (λ ks. tt)
 
--- an image whose blocks have no room is refused, and so stores nothing
-pub no-room-stores-nothing : (s p : List ℕ) → length p < totalBlocks s * blockSize s → store s p ≡ p
-no-room-stores-nothing s p h = go (judged s (length s) (length p)) refl
+-- an image whose blocks have no room is refused, and so gives nothing
+pub no-room-gives-nothing : (s : List ℕ) (room : ℕ) → room < totalBlocks s * blockSize s → effect s room ≡ []
+no-room-gives-nothing s room h = go (judged s (length s) room) refl
   where
-    go : (f : Finding) → judged s (length s) (length p) ≡ f → store s p ≡ p
-    go (accepted ks) e = absurd (omega (arith, sums s (length s) (length p) ks e .fits))
-    go (refused n place) e = refused-stores-nothing s p n place e
+    go : (f : Finding) → judged s (length s) room ≡ f → effect s room ≡ []
+    go (accepted ks) e = absurd (omega (arith, sums s (length s) room ks e .fits))
+    go (refused n place) e = effect-refused s room n place e
 
--- images that give every one of n bytes a cell, and leave the same on every partition of n bytes, give the same
+-- it stores nothing
+pub no-room-stores-nothing : (s p : List ℕ) → length p < totalBlocks s * blockSize s → store s p ≡ p
+no-room-stores-nothing s p h = store-cells s p [] (no-room-gives-nothing s (length p) h)
+
+-- images that give every one of n bytes a cell, and leave the same of n zeros, and of n ones, give the same
 pub effects-told : (i j : List ℕ) (n : ℕ) → length (effect i n) ≡ n → length (effect j n) ≡ n
-    → ((p : List ℕ) → length p ≡ n → store i p ≡ store j p) → effect i n ≡ effect j n
+    → ((v : ℕ) → v < 2 → store i (replicate n v) ≡ store j (replicate n v)) → effect i n ≡ effect j n
 unfolding store
 effects-told i j n k l h =
-    let on : (v : ℕ) → over (effect i n) (replicate n v) ≡ over (effect j n) (replicate n v) =
-    λ v. rw length-replicate at (h (replicate n v) (length-replicate n v)) in
-    cells-told n (effect i n) (effect j n) k l (on 0) (on 1)
+    let on : (v : ℕ) → v < 2 → over (effect i n) (replicate n v) ≡ over (effect j n) (replicate n v) =
+    λ v f. rw length-replicate at (h v f) in
+    cells-told n (effect i n) (effect j n) k l (on 0 (omega arith)) (on 1 (omega arith))

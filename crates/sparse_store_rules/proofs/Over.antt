@@ -104,6 +104,14 @@ pub later-getD : (a b : Option ℕ) (x : ℕ) → Option·getD (later a b) x ≡
 later-getD none b x = refl
 later-getD (some y) b x = refl
 
+-- the cell at a place
+pub getD-laters : (ds cs : List (Option ℕ)) (i : ℕ) → length ds ≡ length cs → getD (laters ds cs) i none ≡ later (getD ds i none) (getD cs i none)
+getD-laters [] [] i e = refl
+getD-laters [] (c ∷ cs) i e = absurd (omega arith)
+getD-laters (d ∷ ds) [] i e = absurd (omega arith)
+getD-laters (d ∷ ds) (c ∷ cs) zero e = refl
+getD-laters (d ∷ ds) (c ∷ cs) (suc i) e = getD-laters ds cs i (omega arith)
+
 -- laid over at once, they leave what one after the other leaves
 pub over-laters : (ds cs : List (Option ℕ)) (p : List ℕ) → length ds ≡ length cs → over (laters ds cs) p ≡ over ds (over cs p)
 over-laters [] [] p e = refl

@@ -7,8 +7,11 @@ use mathlib.Core.List.{List, [], _∷_, _++_}
 use Prim.Native.Nat.{ℕ, _*_, _<_}
 use lib.ListN.{length, getD}
 use lib.Seq.{ext-getD}
+use Rattle.rules.specs.Answer.{Answer}
+use Rattle.sparse_rules.specs.declared.Counts.{Counts}
 use Rattle.sparse_rules.specs.Header.{blockSize}
 use Rattle.sparse_rules.specs.Judge.{effect}
+use Rattle.sparse_rules.specs.Answers.{answer}
 use Rattle.sparse_store_rules.specs.Store.{torn, store, cutStore}
 use Rattle.sparse_store_rules.specs.Runs.{run, answers, Cut, stop, inside, past, Reached, start, again, later, lastGiven, Disturbed, Restored, Restart}
 use Rattle.sparse_store_rules.proofs.Over.{length-over, getD-over, later-getD}
@@ -64,6 +67,31 @@ answers-same [] p q e = refl
 answers-same (s ∷ ss) p q e =
     let rest : answers ss (store s q) ≡ answers ss (store s p) = answers-same ss (store s p) (store s q) (simp length-store e) in
     cc
+
+-- those of images after others
+pub answers-append : (ss ts : List (List ℕ)) (p : List ℕ) → answers (ss ++ ts) p ≡ answers ss p ++ answers ts p
+answers-append [] ts p = refl
+answers-append (s ∷ ss) ts p =
+    ap (λ (r : List (Answer Counts)). answer s (length s) (length p) ∷ r)
+    (answers-append ss ts (store s p) ∙ ap (λ (r : List (Answer Counts)). answers ss (store s p) ++ r) (answers-same ts p (store s p) (length-store s p)))
+
+-- those after one image
+pub answers-after : (s : List ℕ) (ss : List (List ℕ)) (p : List ℕ) → answers (s ∷ ss) p ≡ answer s (length s) (length p) ∷ answers ss p
+answers-after s ss p = ap (λ (r : List (Answer Counts)). answer s (length s) (length p) ∷ r) (answers-same ss p (store s p) (length-store s p))
+
+-- ---- two neighbours in a list, and one image that gives a byte what they give it
+
+later-group : (a b c : Option ℕ) → later a (later b c) ≡ later (later a b) c
+later-group none b c = refl
+later-group (some x) b c = refl
+
+pub given-replaced : (before after : List (List ℕ)) (i s t : List ℕ) (room k : ℕ)
+    → getD (effect i room) k none ≡ later (getD (effect t room) k none) (getD (effect s room) k none)
+    → lastGiven (before ++ i ∷ after) room k ≡ lastGiven (before ++ s ∷ t ∷ after) room k
+given-replaced [] after i s t room k e =
+    ap (later (lastGiven after room k)) e ∙ later-group (lastGiven after room k) (getD (effect t room) k none) (getD (effect s room) k none)
+given-replaced (x ∷ before) after i s t room k e =
+    ap (λ (c : Option ℕ). later c (getD (effect x room) k none)) (given-replaced before after i s t room k e)
 
 -- ---- what a run, cut anywhere, leaves alone
 

@@ -20,6 +20,7 @@ use Rattle.sparse_rules.specs.declared.Chunk.{Chunk}
 use Rattle.sparse_rules.specs.Header.{blockSize, totalBlocks, statedChecksum, headerOf, blockSizeRight, headerTests}
 use Rattle.rules.specs.Answer.{accepted}
 use Rattle.sparse_rules.specs.Cells.{tab, rawByte, cells, zeroed, checksumOf}
+use Rattle.sparse_rules.specs.Counts.{unknown}
 use Rattle.sparse_rules.specs.Judge.{structure, judged}
 use Rattle.sparse_rules.proofs.Facts.{judged-accepted, sum-passed}
 use Rattle.sparse_rules.proofs.Refusals.{header-passes}
@@ -33,7 +34,7 @@ use Rattle.sparse_write_rules.specs.Encode.{chunkSize, chunk, chunks, ve
 use Rattle.sparse_write_rules.specs.Theorems.{runOf, ReadsAs, Encoded}
 use Rattle.sparse_write_rules.proofs.Runs.{tells-kinds, spread-runs, longest, count-runs, counted, counted-spread, All, AllRuns, all-runs}
 use Rattle.sparse_write_rules.proofs.KindCells.{cellsFor, stored-cells, WordFits, stored-fits}
-use Rattle.sparse_write_rules.proofs.ReadBack.{few-blocks, chunkFor, read-tail, read-word, readAs, walk-back, cells-back, cellsKinds, cells-spread}
+use Rattle.sparse_write_rules.proofs.ReadBack.{few-blocks, chunkFor, read-tail, read-word, readAs, known-back, walk-back, cells-back, cellsKinds, cells-spread}
 use Rattle.sparse_write_rules.proofs.FlatImage.{block-good, flat-table}
 use Rattle.sparse_write_rules.proofs.ImageBytes.{bytes-blocks, encode-bytes}
 
@@ -230,6 +231,10 @@ module _ (b : ℕ) (xs : List Block) (w : Whole b xs) where
   unfolding head
   total-read = ap (λ (h : Header). h .total) head-is
 
+  known-found : unknown found ≡ 0
+  unfolding found
+  known-found = known-back b 28 (runs sameKind (map (blockKind b) xs))
+
   -- the image of blocks reads back as these blocks wherever they have room
   pub reads : (room : ℕ) → length xs * b ≤ room → ReadsAs (encode b xs) b xs room
   reads room h =
@@ -238,6 +243,7 @@ module _ (b : ℕ) (xs : List Block) (w : Whole b xs) where
         found = accepts room h;
         states = (size-read, total-read);
         sums = sum-read ∙ sym true-sum;
+        known = known-found;
         cells-are = cells-are;
         gives = effect-accepted (encode b xs) room found (accepts room h) ∙ ap (λ (n : ℕ). cells (encode b xs) n found) size-read ∙ cells-are;
         chunks-are = chunks-back;

@@ -1,7 +1,7 @@
 -- The chunks of an encoded image, read back: the walk finds them, and they have the cells of their runs.
 -- Assumes nothing.
 use mathlib.Core.Path.{_≡_, refl, sym, ap, ap₂, _∙_}
-use mathlib.Core.Bool.{true}
+use mathlib.Core.Bool.{true, cond}
 use mathlib.Core.Option.{Option, some}
 use mathlib.Core.List.{List, [], _∷_, _++_, map, append-assoc}
 use Prim.Native.Nat.{ℕ, zero, suc, _+_, _-_, _*_, _%_, _≤_, _<_}
@@ -23,6 +23,8 @@ use Rattle.sparse_rules.specs.Chunks.{typeAt, blocksAt, sizeAt, sizeRight, read
 use Rattle.sparse_rules.specs.Walk.{walk}
 use Rattle.rules.specs.Answer.{accepted}
 use Rattle.sparse_rules.specs.Cells.{tab, rawByte, fillByte, cellsOf, cells}
+use Rattle.sparse_rules.specs.Counts.{isUnknown, unknown}
+use Rattle.sparse_rules.proofs.Counting.{where-nil, where-cons}
 use Rattle.sparse_rules.proofs.Walk.{walk-read, walk-over}
 use Rattle.sparse_rules.proofs.Facts.{read-whole}
 use Rattle.sparse_rules.proofs.Cells.{length-tab, getD-tab, tab-same, cells-nil, cells-cons, cells-kept}
@@ -141,6 +143,18 @@ read-word s pos w k xs tail e h = number-drop s pos 12 4 ∙ ap (λ (l : List �
 abbrev pub readAs : ℕ → ℕ → List (Run BlockKind) → List Chunk
 readAs b pos [] = []
 readAs b pos (r ∷ rs) = chunkFor (r .kind) (r .many) pos ∷ readAs b (pos + chunkSize (r .kind) (r .many * b)) rs
+
+-- none of them is of an unknown type
+pub known-back : (b pos : ℕ) (rs : List (Run BlockKind)) → unknown (readAs b pos rs) ≡ 0
+known-back b pos [] = where-nil _
+known-back b pos (r ∷ rs) =
+    let on : ℕ = pos + chunkSize (r .kind) (r .many * b) in
+    where-cons _ (chunkFor (r .kind) (r .many) pos) (readAs b on rs) ∙ none-here (r .kind) ∙ known-back b on rs
+  where
+    none-here : (kind : BlockKind) {n : ℕ} → cond (isUnknown (kindFor kind)) (r .many) 0 + n ≡ n
+    none-here kept = omega arith
+    none-here raw = omega arith
+    none-here (fill w) = omega arith
 
 -- blocks that are not too long are not too many
 pub few-blocks : (k b : ℕ) → 0 < b → k * b ≤ 2147483648 → k < 4294967296

@@ -153,7 +153,7 @@ all-written s (k ∷ ks) a = let on = all-written s ks (a .1) in go (k .kind) re
 
 module _ (d : List ℕ) (b : ℕ) (small : Bytes d) (right : blockSizeRight b ≡ true) (fits : lengthWrong (length d) b ≡ false) where
   -- the blocks of flat data that the writer accepts can be encoded
-  flat-whole : Whole b (flatBlocks d b)
+  pub flat-whole : Whole b (flatBlocks d b)
   unfolding flatBlocks
   flat-whole =
       let g = length-good (length d) b fits in

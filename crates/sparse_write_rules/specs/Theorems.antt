@@ -14,6 +14,7 @@ use Rattle.sparse_rules.specs.declared.Chunk.{Chunk}
 use Rattle.sparse_rules.specs.Header.{blockSize, totalBlocks, statedChecksum, blockSizeRight}
 use Rattle.rules.specs.Answer.{accepted}
 use Rattle.sparse_rules.specs.Cells.{cells, checksumOf}
+use Rattle.sparse_rules.specs.Counts.{unknown}
 use Rattle.sparse_rules.specs.Judge.{judged, effect}
 use Rattle.sparse_rules.specs.Answers as judge
 use Rattle.sparse_store_rules.specs.Store.{store}
@@ -50,6 +51,8 @@ pub record ReadsAs (s : List ℕ) (b : ℕ) (xs : List Block) (room : ℕ) : Typ
   pub states : (blockSize s ≡ b) × (totalBlocks s ≡ length xs)
   -- and the true checksum
   pub sums : statedChecksum s ≡ checksumOf s b ks
+  -- none is of an unknown type
+  pub known : unknown ks ≡ 0
   -- their cells are the blocks' own
   pub cells-are : cells s b ks ≡ blockCells b xs
   -- so the image gives each byte what the blocks give it
