@@ -115,7 +115,8 @@ fit-append : (b : ℕ) (xs ys : List Block) → AllFit b xs → AllFit b ys → 
 fit-append b [] ys p q = q
 fit-append b (x ∷ xs) ys p q = (p .0, fit-append b xs ys (p .1) q)
 
-fit-stretch : (s : List ℕ) → Bytes s → (b : ℕ) (k : Kind) (n at : ℕ) → AllFit b (stretch s b k n at)
+-- as do some blocks of a chunk
+pub fit-stretch : (s : List ℕ) → Bytes s → (b : ℕ) (k : Kind) (n at : ℕ) → AllFit b (stretch s b k n at)
 unfolding stretch
 fit-stretch s small b k zero at = tt
 fit-stretch s small b k (suc n) at = (block-fits s small b k at, fit-stretch s small b k n (at + pace b k))

@@ -19,6 +19,8 @@ use front::front;
 use growing::begun;
 use growing::ended;
 use growing::lengthened;
+use growing::settled;
+use growing::sum_turned;
 use growing::turned_to;
 use put::put_front;
 use sparse_blocks::open;
@@ -59,12 +61,13 @@ fn put_chunks(out: &mut [u8], first: &[u8], second: &[u8]) -> u32
     while 0 < a.chunk.blocks {
         let f = front(first, second, a, b);
         let turned = turned_to(growing, f.kind, a.header.block);
-        state = put_front(out, turned, first, second, a, b, f.blocks, state);
+        let summed = sum_turned(growing, f.kind, a.header.block, state);
+        state = put_front(out, turned, first, second, a, b, f.blocks, summed);
         growing = lengthened(turned, f.blocks);
         a = pass(first, a, f.blocks);
         b = pass(second, b, f.blocks);
     }
-    state
+    settled(growing, a.header.block, state)
 }
 
 // A refusal by its number, of both images together.

@@ -2,13 +2,13 @@
 -- Assumes nothing.
 use mathlib.Core.Path.{_≡_, sym, ap, ap₂, subst, _∙_}
 use mathlib.Core.List.{List, _++_, map}
-use Prim.Native.Nat.{ℕ, _+_, _*_, _≤_, _<_}
+use Prim.Native.Nat.{ℕ, _+_, _*_, _%_, _≤_, _<_}
 use native.Mathlib.Nat.{mul-le-mul-right}
 use native.Mathlib.Omega.{arith}
 use lib.Bits.{bitXor}
-use lib.ListN.{length, drop, length-append, length-map}
+use lib.ListN.{length, drop, replicate, length-append, length-map}
 use lib.Seq.{sets, length-sets}
-use Rattle.fields_rules.specs.Number.{placed}
+use Rattle.fields_rules.specs.Number.{Bytes, placed}
 use Rattle.fields_rules.proofs.Laws.{placed-whole}
 use Rattle.fields_rules.proofs.Sets.{sets-whole, sets-around}
 use Rattle.crc32_rules.specs.Crc.{crcFrom, crc32, allOnes}
@@ -16,11 +16,11 @@ use Rattle.crc32_rules.proofs.Laws.{crc-finish}
 use Rattle.sparse_rules.specs.declared.Header.{Header}
 use Rattle.sparse_rules.specs.Header.{headerOf, blockSize, totalBlocks}
 use Rattle.sparse_rules.specs.Cells.{zeroed}
-use Rattle.sparse_write_rules.specs.Blocks.{Block, blockCells}
+use Rattle.sparse_write_rules.specs.Blocks.{Block, blockCells, AllFit}
 use Rattle.sparse_write_rules.specs.Kinds.{BlockKind, sameKind, blockKind}
 use Rattle.sparse_write_rules.specs.Numbered.{kindNumbered}
 use Rattle.sparse_write_rules.specs.Encode.{chunkSize, header, image, encode}
-use Rattle.sparse_write_rules.specs.Parts.{sizes}
+use Rattle.sparse_write_rules.specs.Parts.{chunkRest, sizes}
 use Rattle.sparse_write_rules.proofs.Runs.{tells-kinds, spread-runs, count-runs, counted, counted-spread, blocks-small}
 use Rattle.sparse_write_rules.proofs.FlatImage.{block-good}
 use Rattle.sparse_write_rules.proofs.Chunks.{length-chunks, length-header, sizes-most}
@@ -28,17 +28,18 @@ use Rattle.sparse_blocks_rules.specs.declared.Reader.{Reader}
 use Rattle.sparse_blocks_rules.specs.Blocks.{needed}
 use Rattle.sparse_blocks_rules.specs.Reading.{passedBy, opened}
 use Rattle.sparse_blocks_rules.specs.Pairs.{each, Matched}
-use Rattle.sparse_blocks_rules.specs.Beside.{remaining, Beside}
-use Rattle.sparse_blocks_rules.proofs.Giving.{right-size}
+use Rattle.sparse_blocks_rules.specs.Beside.{remaining, ahead, Beside}
+use Rattle.sparse_blocks_rules.proofs.Giving.{fit-stretch, right-size}
 use Rattle.sparse_blocks_rules.proofs.Passing.{opens}
 use Rattle.sparse_blocks_rules.proofs.SideBySide.{none-left, passes-both, pairs-ahead, opens-beside, opens-all}
 use Rattle.sparse_join_rules.specs.declared.Growing.{Growing}
 use Rattle.sparse_join_rules.specs.Join.{onto, joinedBlocks, join}
 use Rattle.sparse_join_rules.specs.Image.{joinedBytes, joinedRuns, joinedChunks}
 use Rattle.sparse_join_rules.specs.Ahead.{Alike, joinedAhead, JoinedAlike}
-use Rattle.sparse_join_rules.specs.Grows.{begun, endOf, countOf, turnedTo, lengthened, putInto}
-use Rattle.sparse_join_rules.proofs.Blocks.{length-joined}
+use Rattle.sparse_join_rules.specs.Grows.{begun, endOf, countOf, turnedTo, lengthened, putInto, settledBy, sumTurned}
+use Rattle.sparse_join_rules.proofs.Blocks.{fit-onto, length-joined}
 use Rattle.sparse_join_rules.proofs.Measuring.{Measured, measure-start, measure-turn, measure-more, measure-fits, measure-done}
+use Rattle.sparse_join_rules.proofs.Waiting.{Waits, alike-waits}
 use Rattle.sparse_join_rules.proofs.Laying.{Laid, lay-start, lay-long, lay-turn, lay-more, lay-done}
 use Rattle.sparse_join_rules.proofs.Fronts.{ahead-long}
 
@@ -178,6 +179,12 @@ module _ {s t : List ℕ} {a b : Reader} {g : Growing} (w : Measures s t a b g) 
 
 -- ---- laying
 
+-- the next blocks fit the block size
+fit-ahead : {s t : List ℕ} {a b : Reader} → Beside s t a b → Bytes s → Bytes t → (n : ℕ) → AllFit (a .header .block) (joinedAhead s t a b n)
+fit-ahead {s} {t} {a} {b} w small little n =
+    fit-onto (a .header .block) (ahead s a n) (ahead t b n) (fit-stretch s small (a .header .block) (a .chunk .kind) n (a .chunk .body))
+    (subst (λ (x : ℕ). AllFit x (ahead t b n)) (sym (w .size)) (fit-stretch t little (b .header .block) (b .chunk .kind) n (b .chunk .body)))
+
 -- what is laid into the output, and the blocks that are left
 pub record Lays (s t out₀ out : List ℕ) (a b : Reader) (g : Growing) (state : ℕ) : Type 0 where
   pub at : Beginning s t a b
@@ -199,37 +206,43 @@ module _ {s t out₀ out : List ℕ} {a b : Reader} {g : Growing} {state : ℕ} 
   lays-long = lay-long (blockSize s) (joinedBlocks s t) (w .laid)
 
   -- after the last block, the chunks and the state
-  pub lays-done : a .chunk .blocks ≡ 0 → (state ≡ crcFrom allOnes (joinedBytes s t)) × (out ≡ sets out₀ 28 (joinedChunks s t))
-  lays-done e = lay-done (blockSize s) (joinedBlocks s t) (rw (none-left (w .at .beside) onto e) at (w .laid))
+  pub lays-done : a .chunk .blocks ≡ 0 → (settledBy (a .header .block) g state ≡ crcFrom allOnes (joinedBytes s t)) × (out ≡ sets out₀ 28 (joinedChunks s t))
+  lays-done e =
+      let r = lay-done (blockSize s) (joinedBlocks s t) (subst (Laid (blockSize s) (joinedBlocks s t) out₀ out state g) (none-left (w .at .beside) onto e) (w .laid)) in
+      (ap (λ (x : ℕ). settledBy x g state) (w .at .sized) ∙ r .0, r .1)
 
   module _ {kind n : ℕ} (p : JoinedAlike s t a b kind n) where
     -- a turn to the next blocks
-    pub lays-turn : Lays s t out₀ out a b (turnedTo (a .header .block) g kind) state
+    pub lays-turn : Lays s t out₀ out a b (turnedTo (a .header .block) g kind) (sumTurned (a .header .block) g kind state)
     lays-turn =
         let ps : List Block = joinedAhead s t a b n in
         let rest : List Block = left s t (passedBy s a n) (passedBy t b n) in
         record {
           at = w .at;
           laid =
-              subst (λ (x : ℕ). Laid (blockSize s) (joinedBlocks s t) out₀ out state (turnedTo x g kind) (left s t a b)) (sym (w .at .sized))
-              (subst (Laid (blockSize s) (joinedBlocks s t) out₀ out state (turnedTo (blockSize s) g kind)) (sym (split (w .at) p))
+              subst (λ (x : ℕ). Laid (blockSize s) (joinedBlocks s t) out₀ out (sumTurned x g kind state) (turnedTo x g kind) (left s t a b)) (sym (w .at .sized))
+              (subst (Laid (blockSize s) (joinedBlocks s t) out₀ out (sumTurned (blockSize s) g kind state) (turnedTo (blockSize s) g kind)) (sym (split (w .at) p))
               (lay-turn (blockSize s) (joinedBlocks s t) ps rest (subst (Laid (blockSize s) (joinedBlocks s t) out₀ out state g) (split (w .at) p) (w .laid)) (of-kind (w .at) p)));
         }
 
     -- past them, once they are put
-    pub lays-on : g .kind ≡ kind → {out′ : List ℕ} {state′ : ℕ} → state′ ≡ crcFrom state (zeroed (blockCells (a .header .block) (joinedAhead s t a b n)))
+    pub lays-on : Bytes s → Bytes t → g .kind ≡ kind → {out′ : List ℕ} {state′ : ℕ}
+        → state′ ≡ crcFrom state (chunkRest (kindNumbered (g .kind)) (zeroed (blockCells (a .header .block) (joinedAhead s t a b n))))
         → out′ ≡ putInto out (a .header .block) g n (zeroed (blockCells (a .header .block) (joinedAhead s t a b n)))
         → Lays s t out₀ out′ (passedBy s a n) (passedBy t b n) (lengthened g n) state′
-    lays-on e summed put =
+    lays-on small little e summed put =
         let z = w .at .sized in
+        let v = w .at .beside in
         let ps : List Block = joinedAhead s t a b n in
         let ys : List ℕ = zeroed (blockCells (a .header .block) ps) in
+        let waits : Waits (a .header .block) (kindNumbered (g .kind)) ys n =
+        alike-waits (a .header .block) (v .first .reads .here .fours) (kindNumbered (g .kind)) ps n (fit-ahead v small little n) (p .alike .kinds ∙ ap (λ (j : ℕ). replicate n (kindNumbered j)) (sym e)) in
         record {
           at = goes-on (w .at) p;
           laid =
               lay-more (blockSize s) (joinedBlocks s t) ps (left s t (passedBy s a n) (passedBy t b n)) (subst (Laid (blockSize s) (joinedBlocks s t) out₀ out state g) (split (w .at) p) (w .laid))
-              (of-kind (w .at) p) e (ap (λ (x : ℕ). zeroed (blockCells x ps)) z) (ahead-long (w .at .beside) n ∙ ap (λ (x : ℕ). n * x) z)
-              (put ∙ ap (λ (x : ℕ). putInto out x g n ys) z) summed;
+              (of-kind (w .at) p) (subst (λ (x : ℕ). x % 4 ≡ 0) z (v .first .reads .here .fours)) e (ap (λ (x : ℕ). zeroed (blockCells x ps)) z) (ahead-long v n ∙ ap (λ (x : ℕ). n * x) z)
+              (subst (λ (x : ℕ). Waits x (kindNumbered (g .kind)) ys n) z waits) (put ∙ ap (λ (x : ℕ). putInto out x g n ys) z) summed;
         }
 
 -- ---- the header

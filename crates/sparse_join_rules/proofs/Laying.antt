@@ -3,7 +3,7 @@
 use mathlib.Core.Path.{_≡_, refl, sym, ap, ap₂, _∙_}
 use mathlib.Core.Bool.{Bool, true, false, cond}
 use mathlib.Core.List.{List, [], _++_, append-assoc, append-nil}
-use Prim.Native.Nat.{ℕ, zero, suc, _+_, _*_, _≤_, _<_}
+use Prim.Native.Nat.{ℕ, zero, suc, _+_, _*_, _%_, _≤_, _<_}
 use native.Mathlib.Nat.{add-mul}
 use native.Mathlib.Omega.{arith}
 use borrow.Author.Tests.{eqb-false}
@@ -13,7 +13,7 @@ use lib.Seq.{sets, length-sets, drop-drop, drop-at}
 use Rattle.fields_rules.specs.Number.{placed}
 use Rattle.fields_rules.proofs.Sets.{sets-append, sets-anew}
 use Rattle.crc32_rules.specs.Crc.{crcFrom, allOnes}
-use Rattle.crc32_rules.proofs.Laws.{crc-nil, crc-append}
+use Rattle.crc32_rules.proofs.Laws.{crc-nil}
 use Rattle.sparse_rules.specs.declared.Kind.the-variants.{Raw}
 use Rattle.sparse_rules.specs.declared.Chunk.{Chunk}
 use Rattle.sparse_rules.specs.Cells.{tab, rawByte, cellsOf, zeroed}
@@ -22,7 +22,7 @@ use Rattle.sparse_rules.proofs.Cells.{length-tab, zeroed-append, zeroed-raw}
 use Rattle.sparse_rules.proofs.Image.{chunk-cells}
 use Rattle.sparse_rules.proofs.SumLaws.{raw-inside}
 use Rattle.sparse_write_rules.specs.Blocks.{Block, blockCells}
-use Rattle.sparse_write_rules.specs.Kinds.{BlockKind}
+use Rattle.sparse_write_rules.specs.Kinds.{BlockKind, kept}
 use Rattle.sparse_write_rules.specs.Numbered.{kindNumbered}
 use Rattle.sparse_write_rules.specs.Runs.{Run, closed}
 use Rattle.sparse_write_rules.specs.Encode.{chunkSize, chunk, chunks}
@@ -35,7 +35,8 @@ use Rattle.sparse_write_rules.proofs.Putting.{top-fits, rest-put}
 use Rattle.sparse_blocks_rules.proofs.Giving.{cells-append}
 use Rattle.sparse_join_rules.specs.declared.Growing.{Growing}
 use Rattle.sparse_join_rules.specs.Ahead.{Alike}
-use Rattle.sparse_join_rules.specs.Grows.{begun, lastRun, runsWith, endedFor, turnedTo, lengthened, putInto}
+use Rattle.sparse_join_rules.specs.Grows.{begun, lastRun, runsWith, endedFor, turnedTo, lengthened, putInto, waiting, settledBy, sumTurned}
+use Rattle.sparse_join_rules.proofs.Waiting.{waiting-none, Waits, sum-more}
 use Rattle.sparse_join_rules.proofs.Measuring.{runs-more, runs-turn, runs-end, counted-closed, allRuns, Measured, measure-start, measure-turn, measure-more}
 
 -- ---- the last chunk
@@ -89,6 +90,11 @@ rest-same (suc (suc w)) xs ys h = refl
 raw-bytes : (s : List ℕ) (b : ℕ) (k : Chunk) → Summable s b k → k .kind ≡ Raw → take (k .blocks * b) (drop (k .body) s) ≡ zeroed (cellsOf s b k)
 raw-bytes s b k w e = sym (ap zeroed (chunk-cells s b k) ∙ rw e (zeroed-raw s (k .body) (k .blocks * b) (raw-inside 0 s b k w e)))
 
+-- their data as they stand in the image, where they are raw
+pub piece-rest : {s : List ℕ} {b : ℕ} {k : Chunk} → Summable s b k → (kind : ℕ) → (kind ≡ 1 → k .kind ≡ Raw)
+    → chunkRest (kindNumbered kind) (take (k .blocks * b) (drop (k .body) s)) ≡ chunkRest (kindNumbered kind) (zeroed (cellsOf s b k))
+piece-rest {s} {b} {k} w kind raw-only = rest-same kind (take (k .blocks * b) (drop (k .body) s)) (zeroed (cellsOf s b k)) (λ i. raw-bytes s b k w (raw-only i))
+
 -- they are put into the last chunk: its beginning, and their data after what stands there
 pub piece-put : {s : List ℕ} {b : ℕ} {k : Chunk} → Summable s b k → (out : List ℕ) (g : Growing)
     → g .at + chunkSize (kindNumbered (g .kind)) ((g .blocks + k .blocks) * b) ≤ length out → (g .kind ≡ 1 → k .kind ≡ Raw) → {z : ℕ} {out₁ out₂ : List ℕ}
@@ -103,7 +109,7 @@ piece-put {s} {b} {k} w out g room raw-only e put more =
     more
     ∙ ap₂ (λ (l r : List ℕ). sets l (g .at + 12 + g .blocks * b) r)
     (put ∙ ap (λ (x : ℕ). placed out (g .at) (chunkTop kind n x)) size ∙ top-fits kind n (n * b) out (g .at) room)
-    (rest-same (g .kind) (take (k .blocks * b) (drop (k .body) s)) (zeroed (cellsOf s b k)) (λ i. raw-bytes s b k w (raw-only i)))
+    (piece-rest w (g .kind) raw-only)
 
 -- ---- the output
 
@@ -132,8 +138,8 @@ module _ (b : ℕ) (xs : List Block) where
     -- they stand in the output, and the last one so far
     pub room : 28 + length allChunks ≤ length out₀
     pub holds : out ≡ sets out₀ 28 (done ++ chunks b (bytesOf xs) before (lastRun g))
-    -- the state goes on over the blocks that are left
-    pub sum : crcFrom allOnes (bytesOf xs) ≡ crcFrom state (bytesOf left)
+    -- the state goes on over the blocks that wait and those that are left
+    pub sum : crcFrom allOnes (bytesOf xs) ≡ crcFrom (settledBy b g state) (bytesOf left)
 
   -- before the first block
   pub lay-start : (out : List ℕ) (state : ℕ) → 28 + length allChunks ≤ length out → state ≡ allOnes → Laid out out state begun xs
@@ -148,14 +154,14 @@ module _ (b : ℕ) (xs : List Block) where
         rest = rw z;
         room = h;
         holds = rw chunks-nil;
-        sum = rw e;
+        sum = ap (λ (c : ℕ). crcFrom c (bytesOf xs)) (sym e ∙ sym (ap (crcFrom state) (waiting-none b kept) ∙ crc-nil state));
       }
 
   -- after the last, the output and the state
-  pub lay-done : {out₀ out : List ℕ} {state : ℕ} {g : Growing} → Laid out₀ out state g [] → (state ≡ crcFrom allOnes (bytesOf xs)) × (out ≡ sets out₀ 28 allChunks)
+  pub lay-done : {out₀ out : List ℕ} {state : ℕ} {g : Growing} → Laid out₀ out state g [] → (settledBy b g state ≡ crcFrom allOnes (bytesOf xs)) × (out ≡ sets out₀ 28 allChunks)
   unfolding blockCells zeroed
   lay-done {out₀} {state = state} {g = g} w = (
-    sym (w .sum ∙ crc-nil state),
+    sym (w .sum ∙ crc-nil (settledBy b g state)),
     w .holds ∙ ap (λ (rs : List (Run BlockKind)). sets out₀ 28 (w .done ++ chunks b (bytesOf xs) (w .before) rs)) (sym (runs-end b g)) ∙ ap (sets out₀ 28) (sym (w .goes)),
   )
 
@@ -165,10 +171,10 @@ module _ (b : ℕ) (xs : List Block) where
 
   module _ (ps left : List Block) {out₀ out : List ℕ} {state : ℕ} {g : Growing} (w : Laid out₀ out state g (ps ++ left)) {kind n : ℕ} (p : Alike b ps kind n) where
     -- a turn to blocks of a kind
-    pub lay-turn : Laid out₀ out state (turnedTo b g kind) (ps ++ left)
+    pub lay-turn : Laid out₀ out (sumTurned b g kind state) (turnedTo b g kind) (ps ++ left)
     lay-turn = go (eqb kind (g .kind)) refl (measure-turn b xs ps left (w .measured) p)
       where
-        go : (x : Bool) → eqb kind (g .kind) ≡ x → Measured b xs (cond x g (endedFor b g kind)) (ps ++ left) → Laid out₀ out state (cond x g (endedFor b g kind)) (ps ++ left)
+        go : (x : Bool) → eqb kind (g .kind) ≡ x → Measured b xs (cond x g (endedFor b g kind)) (ps ++ left) → Laid out₀ out (cond x state (settledBy b g state)) (cond x g (endedFor b g kind)) (ps ++ left)
         go true e m = w
         go false e m =
             let d : List ℕ = bytesOf xs in
@@ -188,13 +194,13 @@ module _ (b : ℕ) (xs : List Block) where
               rest = rw z (w .rest);
               room = w .room;
               holds = w .holds ∙ ap (sets out₀ 28) (sym (append-nil (w .done ++ last)) ∙ ap (λ (r : List ℕ). (w .done ++ last) ++ r) (sym (chunks-nil b d on)));
-              sum = w .sum;
+              sum = w .sum ∙ ap (λ (c : ℕ). crcFrom c (bytesOf (ps ++ left))) (sym (ap (crcFrom (settledBy b g state)) (waiting-none b (kindNumbered kind)) ∙ crc-nil (settledBy b g state)));
             }
 
     -- blocks of the last chunk's kind are put into it
-    pub lay-more : g .kind ≡ kind → {ys out′ : List ℕ} {state′ : ℕ} → ys ≡ bytesOf ps → length ys ≡ n * b
-        → out′ ≡ putInto out b g n ys → state′ ≡ crcFrom state ys → Laid out₀ out′ state′ (lengthened g n) left
-    lay-more e {ys} {out′} {state′} is long put summed =
+    pub lay-more : b % 4 ≡ 0 → g .kind ≡ kind → {ys out′ : List ℕ} {state′ : ℕ} → ys ≡ bytesOf ps → length ys ≡ n * b → Waits b (kindNumbered (g .kind)) ys n
+        → out′ ≡ putInto out b g n ys → state′ ≡ crcFrom state (chunkRest (kindNumbered (g .kind)) ys) → Laid out₀ out′ state′ (lengthened g n) left
+    lay-more fours e {ys} {out′} {state′} is long waits put summed =
         let d : List ℕ = bytesOf xs in
         let k : BlockKind = kindNumbered (g .kind) in
         let m : ℕ = g .blocks in
@@ -219,6 +225,6 @@ module _ (b : ℕ) (xs : List Block) where
               ∙ chunk-grown b d (w .before) k m n ys first (g .at) (p .some) more
               ∙ rw (w .stands) (sym (sets-append (w .done) (chunks b d (w .before) (closed k (m + n))) out₀ 28));
           sum =
-              w .sum ∙ ap (crcFrom state) (bytes-append ps left ∙ ap (λ (r : List ℕ). r ++ bytesOf left) (sym is)) ∙ crc-append state ys (bytesOf left)
-              ∙ ap (λ (c : ℕ). crcFrom c (bytesOf left)) (sym summed);
+              w .sum ∙ ap (crcFrom (settledBy b g state)) (bytes-append ps left ∙ ap (λ (r : List ℕ). r ++ bytesOf left) (sym is))
+              ∙ sum-more b fours k state m n ys (bytesOf left) waits ∙ ap (λ (c : ℕ). crcFrom (crcFrom c (waiting b k (m + n))) (bytesOf left)) (sym summed);
         }

@@ -1,13 +1,16 @@
 -- An image as it grows, some blocks of one kind at a time.
 -- Assumes nothing.
 use mathlib.Core.Bool.{cond}
-use mathlib.Core.List.{List, _++_, map}
-use Prim.Native.Nat.{ℕ, _+_, _*_}
+use mathlib.Core.List.{List, [], _++_, map}
+use Prim.Native.Nat.{ℕ, _+_, _*_, _/_}
 use lib.Dec.{eqb}
 use lib.ListN.{length, replicate}
 use lib.Seq.{sets}
+use Rattle.fields_rules.specs.Number.{bytes}
+use Rattle.crc32_rules.specs.Crc.{crcFrom}
+use Rattle.crc32_rules.specs.Power.{repeated}
 use Rattle.sparse_write_rules.specs.Blocks.{Block}
-use Rattle.sparse_write_rules.specs.Kinds.{BlockKind, sameKind, blockKind}
+use Rattle.sparse_write_rules.specs.Kinds.{BlockKind, kept, raw, fill, sameKind, blockKind}
 use Rattle.sparse_write_rules.specs.Numbered.{kindNumbered}
 use Rattle.sparse_write_rules.specs.Runs.{Run, runs, closed}
 use Rattle.sparse_write_rules.specs.Encode.{chunkSize}
@@ -52,3 +55,17 @@ putInto out b g n ys =
     let kind : BlockKind = kindNumbered (g .kind) in
     let top : List ℕ = chunkTop kind (g .blocks + n) (chunkSize kind ((g .blocks + n) * b)) in
     sets (sets out (g .at) top) (g .at + 12 + g .blocks * b) (chunkRest kind ys)
+
+-- the bytes of n blocks of a kind that the checksum takes when their chunk ends; raw data it takes as they are put
+abbrev pub waiting : ℕ → BlockKind → ℕ → List ℕ
+waiting b kept n = replicate (n * b) 0
+waiting b raw n = []
+waiting b (fill w) n = repeated (n * b / 4) (bytes 4 w)
+
+-- the checksum's state once the blocks of the last chunk are taken
+abbrev pub settledBy : ℕ → Growing → ℕ → ℕ
+settledBy b g state = crcFrom state (waiting b (kindNumbered (g .kind)) (g .blocks))
+
+-- and where blocks of a kind go: a last chunk of another kind has ended
+abbrev pub sumTurned : ℕ → Growing → ℕ → ℕ → ℕ
+sumTurned b g kind state = cond (eqb kind (g .kind)) state (settledBy b g state)

@@ -8,7 +8,7 @@ use Rattle.sparse_join.proofs.growing.turned_to.Tie as tie
 
 returns : tie.Need-returns
 returns c =
-    let a = c .before .args in
+    let a = c .before .before .args in
     turned-same (a .block) (a .g) (a .kind) (c .if1 .taken)
 
 ended-requires : tie.Need-ended-requires
@@ -16,7 +16,7 @@ ended-requires c κs = search needs
 
 returns-2 : tie.Need-returns-2
 returns-2 c =
-    let a = c .before .before .args in
+    let a = c .before .before .before .args in
     c .ended .ensures ∙ turned-other (a .block) (a .g) (a .kind) (c .before .if1 .left)
 
 pub turned-to-spec : {M : Type 1} → statement M

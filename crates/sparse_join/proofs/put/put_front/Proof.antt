@@ -5,6 +5,8 @@ use mathlib.Core.List.{List}
 use Prim.Native.Nat.{ℕ}
 use Rattle.crc32_rules.specs.Crc.{crcFrom}
 use Rattle.sparse_rules.proofs.SumLaws.{summable-first}
+use Rattle.sparse_write_rules.specs.Numbered.{kindNumbered}
+use Rattle.sparse_write_rules.specs.Parts.{chunkRest}
 use Rattle.sparse_join_rules.specs.Grows.{putInto}
 use Rattle.sparse_join_rules.proofs.Fronts.{second-bytes, first-bytes}
 use borrow.Author.Needs.{needs}
@@ -35,7 +37,7 @@ returns c =
     let a = start .args in
     let same = second-bytes (start .pre .0) (a .n) (sym (c .before .before .before .before .before .writes .ensures) ∙ c .before .before .before .before .if1 .taken) in
     let put = c .before .before .put-piece .ensures in
-    (put .0 ∙ ap (crcFrom (a .state)) same, put .1 ∙ ap₂ (λ (size : ℕ) (ys : List ℕ). putInto (a .out .now) size (a .g) (a .n) ys) (sym (start .pre .0 .size)) same)
+    (put .0 ∙ ap (λ (ys : List ℕ). crcFrom (a .state) (chunkRest (kindNumbered (a .g .kind)) ys)) same, put .1 ∙ ap₂ (λ (size : ℕ) (ys : List ℕ). putInto (a .out .now) size (a .g) (a .n) ys) (sym (start .pre .0 .size)) same)
 
 put-piece-requires-2 : tie.Need-put-piece-requires-2
 put-piece-requires-2 c κs =
@@ -57,7 +59,7 @@ returns-2 c =
     let a = start .args in
     let same = first-bytes (start .pre .0) (a .n) (sym (c .before .before .before .before .before .writes .ensures) ∙ c .before .before .before .before .if1 .left) in
     let put = c .before .before .put-piece2 .ensures in
-    (put .0 ∙ ap (crcFrom (a .state)) same, put .1 ∙ ap (putInto (a .out .now) (a .a .header .block) (a .g) (a .n)) same)
+    (put .0 ∙ ap (λ (ys : List ℕ). crcFrom (a .state) (chunkRest (kindNumbered (a .g .kind)) ys)) same, put .1 ∙ ap (putInto (a .out .now) (a .a .header .block) (a .g) (a .n)) same)
 
 pub put-front-spec : {M : Type 1} → statement M
 put-front-spec =

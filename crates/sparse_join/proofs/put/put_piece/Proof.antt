@@ -1,12 +1,14 @@
--- `sparse_join::put::put_piece` meets its contract: the chunk's beginning, its raw data, and the state over the blocks.
+-- `sparse_join::put::put_piece` meets its contract: the chunk's beginning, and the raw data after what stands there.
 -- Assumes nothing.
+use mathlib.Core.Path.{ap, _∙_}
 use Prim.Native.Nat.{_+_, _*_}
 use native.Mathlib.Nat.{add-mul}
 use native.Mathlib.Omega.{arith}
+use Rattle.crc32_rules.specs.Crc.{crcFrom}
+use Rattle.sparse_rules.proofs.SumLaws.{raw-inside}
 use Rattle.sparse_write_rules.specs.Numbered.{kindNumbered}
 use Rattle.sparse_write_rules.proofs.Chunks.{size-most}
-use Rattle.sparse_rules.proofs.SumLaws.{raw-inside}
-use Rattle.sparse_join_rules.proofs.Laying.{piece-put}
+use Rattle.sparse_join_rules.proofs.Laying.{piece-rest, piece-put}
 use borrow.Author.Needs.{needs}
 use Rattle.sparse_join.proofs.put.put_piece.Statement.{statement}
 use Rattle.sparse_join.proofs.put.put_piece.Tie as tie
@@ -44,28 +46,28 @@ cast-put-top c =
 put-top-requires : tie.Need-put-top-requires
 put-top-requires c κs = search needs
 
-add-put-data : tie.Need-add-put-data
-add-put-data c = search needs
+add-from : tie.Need-add-from
+add-from c = search needs
 
-add-put-data-2 : tie.Need-add-put-data-2
-add-put-data-2 c = search needs
+add-from-2 : tie.Need-add-from-2
+add-from-2 c = search needs
 
 put-data-requires : tie.Need-put-data-requires
 put-data-requires c κs =
     let start = c .before .before .before .before .before .before .before .before .before .before .before .before .before in
     λ e. raw-inside 0 (start .args .image .now) (start .args .block) (start .args .chunk) (start .pre .0) (start .pre .4 e)
 
-sum-requires : tie.Need-sum-requires
-sum-requires c κs = search needs
-
 same-length : tie.Need-same-length
 same-length c = search needs
 
 returns : tie.Need-returns
 returns c =
-    let top = c .before .before .before .before .before .before .before .before in
+    let top = c .before .before .before .before .before .before .before in
     let start = top .before .before .before .before .before .before .before .before .before in
-    (c .sum .ensures, piece-put (start .pre .0) (start .args .out .now) (start .args .g) (start .pre .3) (start .pre .4) (top .before .before .before .before .chunk-size .ensures) (top .put-top .ensures) (c .before .before .before .put-data .ensures))
+    let put = c .before .before .put-data .ensures in (
+      put .0 ∙ ap (crcFrom (start .args .state)) (piece-rest (start .pre .0) (start .args .g .kind) (start .pre .4)),
+      piece-put (start .pre .0) (start .args .out .now) (start .args .g) (start .pre .3) (start .pre .4) (top .before .before .before .before .chunk-size .ensures) (top .put-top .ensures) (put .1),
+    )
 
 pub put-piece-spec : {M : Type 1} → statement M
 put-piece-spec =
@@ -81,9 +83,8 @@ put-piece-spec =
     add-put-top
     cast-put-top
     put-top-requires
-    add-put-data
-    add-put-data-2
+    add-from
+    add-from-2
     put-data-requires
-    sum-requires
     same-length
     returns)
