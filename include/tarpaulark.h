@@ -56,7 +56,7 @@
  * judging both images takes, and time in proportion to their chunks and to the bytes
  * of the raw blocks that come to be written, those of the second image and those of
  * the first that the second does not write: it goes over the chunks and these blocks
- * twice, to measure and then to copy, and over the blocks once more for the
+ * twice, to measure and then to copy, and once more over what it copies, for the
  * checksum. Blocks that are fill or kept cost nothing of their own. All else takes a
  * fixed number of steps.
  *
