@@ -131,11 +131,13 @@ fit-blocksOf s small b (k ∷ ks) =
 -- ---- an accepted image
 
 module _ {s : List ℕ} (a : Accepted s) where
-  judges : judged s (length s) (needed s) ≡ accepted (a .ks)
+  -- it is accepted where it has just the room that it needs
+  pub judges : judged s (length s) (needed s) ≡ accepted (a .ks)
   unfolding found
   judges = a .is
 
-  blocks-are : blocks s ≡ blocksOf s (blockSize s) (a .ks)
+  -- its blocks are those of its chunks
+  pub blocks-are : blocks s ≡ blocksOf s (blockSize s) (a .ks)
   unfolding blocks
   blocks-are = blocks-accepted s (blockSize s) (a .ks) (a .is)
 

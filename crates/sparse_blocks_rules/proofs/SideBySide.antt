@@ -38,12 +38,19 @@ each-at f (x ∷ xs) [] k d h e = absurd (omega arith)
 each-at f (x ∷ xs) (y ∷ ys) zero d h e = refl
 each-at f (x ∷ xs) (y ∷ ys) (suc k) d h e = each-at f xs ys k d (le-of-suc-le-suc h) (omega arith)
 
-no-pairs : {A : Type 0} (f : Block → Block → A) (ys : List Block) → each f [] ys ≡ []
+-- no blocks, no pairs
+pub no-pairs : {A : Type 0} (f : Block → Block → A) (ys : List Block) → each f [] ys ≡ []
 unfolding each
 no-pairs f ys = refl
 
+-- on either side
+pub none-beside : {A : Type 0} (f : Block → Block → A) (xs : List Block) → each f xs [] ≡ []
+unfolding each
+none-beside f [] = refl
+none-beside f (x ∷ xs) = refl
+
 -- the pairs of the first blocks stand before those of the others
-each-append : {A : Type 0} (f : Block → Block → A) (xs ys us vs : List Block) → length ys ≡ length xs
+pub each-append : {A : Type 0} (f : Block → Block → A) (xs ys us vs : List Block) → length ys ≡ length xs
     → each f (xs ++ us) (ys ++ vs) ≡ each f xs ys ++ each f us vs
 unfolding each
 each-append f [] [] us vs e = refl

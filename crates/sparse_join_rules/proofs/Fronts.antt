@@ -79,9 +79,18 @@ module _ (s : List ℕ) (b : ℕ) (least : 4 ≤ b) where
     fill-kind =
         kind-fill (tab (fillByte s at) 0 b) b 0 (numberAt s at 4) (sym (fill-word 0 refl (omega arith))) (fill-words (b / 4) 0 refl (omega arith))
 
+  -- all blocks of a fill chunk are of that kind
+  pub fill-kinds : (n at : ℕ) → map (blockKind b) (stretch s b Fill n at) ≡ replicate n (fill (numberAt s at 4))
+  fill-kinds n at =
+      kinds-stretch s b Fill (fill (numberAt s at 4)) n at (λ j l. let y : at + j * 0 ≡ at = omega arith in rw y (fill-kind at))
+
 -- a skipped block's is don't care
 kept-kind : (s : List ℕ) (b : ℕ) (k : Kind) (at : ℕ) → writes k ≡ false → blockKind b (blockFrom s b k at) ≡ kept
 kept-kind s b k at e = ap (blockKind b) (blocks.kept s b k at e)
+
+-- and so are all blocks of such a chunk
+pub kept-kinds : (s : List ℕ) (b : ℕ) (k : Kind) (n at : ℕ) → writes k ≡ false → map (blockKind b) (stretch s b k n at) ≡ replicate n kept
+kept-kinds s b k n at e = kinds-stretch s b k kept n at (λ j l. kept-kind s b k (at + j * pace b k) e)
 
 -- ---- the first blocks of a chunk
 
@@ -116,10 +125,7 @@ module _ {s : List ℕ} {b : ℕ} {k : Chunk} {n : ℕ} (least : 4 ≤ b) (some-
         alike =
             record {
               some = some-left;
-              kinds =
-                  rw (e, z)
-                  (kinds-stretch s b Fill (fill (numberAt s (k .body) 4)) n (k .body)
-                  (λ j l. let y : k .body + j * 0 ≡ k .body = omega arith in rw y (fill-kind s b least (k .body))));
+              kinds = rw (e, z) (fill-kinds s b least n (k .body));
             };
         raw = λ y. absurd (omega arith);
       }
@@ -129,7 +135,7 @@ module _ {s : List ℕ} {b : ℕ} {k : Chunk} {n : ℕ} (least : 4 ≤ b) (some-
   first-kept e =
       record {
         fits = omega arith;
-        alike = record { some = some-left; kinds = kinds-stretch s b (k .kind) kept n (k .body) (λ j l. kept-kind s b (k .kind) (k .body + j * pace b (k .kind)) e) };
+        alike = record { some = some-left; kinds = kept-kinds s b (k .kind) n (k .body) e };
         raw = λ y. absurd (omega arith);
       }
 
@@ -140,7 +146,7 @@ abbrev pub firstOf : Chunk → ℕ → Chunk
 firstOf k n = record { kind = k .kind; blocks = n; body = k .body }
 
 -- the second's blocks, where it writes them
-onto-second : (s t : List ℕ) (b c : ℕ) (k l : Kind) (n at to : ℕ) → writes l ≡ true → each onto (stretch s b k n at) (stretch t c l n to) ≡ stretch t c l n to
+pub onto-second : (s t : List ℕ) (b c : ℕ) (k l : Kind) (n at to : ℕ) → writes l ≡ true → each onto (stretch s b k n at) (stretch t c l n to) ≡ stretch t c l n to
 unfolding stretch each
 onto-second s t b c k l zero at to e = refl
 onto-second s t b c k l (suc n) at to e =
@@ -148,7 +154,7 @@ onto-second s t b c k l (suc n) at to e =
     ap₂ (λ (x : Block) (r : List Block). x ∷ r) (ap (onto (blockFrom s b k at)) u ∙ sym u) (onto-second s t b c k l n (at + pace b k) (to + pace c l) e)
 
 -- and else the first's
-onto-first : (s t : List ℕ) (b c : ℕ) (k l : Kind) (n at to : ℕ) → writes l ≡ false → each onto (stretch s b k n at) (stretch t c l n to) ≡ stretch s b k n at
+pub onto-first : (s t : List ℕ) (b c : ℕ) (k l : Kind) (n at to : ℕ) → writes l ≡ false → each onto (stretch s b k n at) (stretch t c l n to) ≡ stretch s b k n at
 unfolding stretch each
 onto-first s t b c k l zero at to e = refl
 onto-first s t b c k l (suc n) at to e =

@@ -58,7 +58,7 @@ module _ {s t : List ℕ} (m : Matched s t) where
       ∙ ap (λ (n : ℕ). n + length (joinedChunks s t)) (length-header (blockSize s) (totalBlocks s) (length (joinedRuns s t)) (crc32 (joinedBytes s t)))
 
   -- by its runs
-  join-sizes : length (join s t) ≡ 28 + sizes (blockSize s) (joinedRuns s t)
+  pub join-sizes : length (join s t) ≡ 28 + sizes (blockSize s) (joinedRuns s t)
   join-sizes = join-long ∙ ap (λ (n : ℕ). 28 + n) (length-chunks (blockSize s) (joinedBytes s t) 0 (joinedRuns s t))
 
   -- no chunks but of a block at least, and none of them long

@@ -6,3 +6,4 @@ pub mod Waiting
 pub mod Laying
 pub mod Fronts
 pub mod Joining
+pub mod Lengths

@@ -37,10 +37,11 @@ use Rattle.sparse_blocks_rules.specs.Pairs.{pairAnswer, pairTests, each, Accept
 use Rattle.sparse_blocks_rules.proofs.Giving.{gives, encoded-accepted, encoded-blocks}
 use Rattle.sparse_blocks_rules.proofs.SideBySide.{same-room, as-many}
 use Rattle.sparse_blocks_rules.proofs.Pairing.{judged-so, pair-accepted, pair-passed, ordered, leaves}
-use Rattle.sparse_join_rules.specs.Join.{onto, joinedBlocks, join, joinTests, answer, output, bound}
+use Rattle.sparse_join_rules.specs.Join.{onto, joinedBlocks, join, joinTests, answer, output, blocksBound, bound}
 use Rattle.sparse_join_rules.specs.Theorems.{Joinable, Joins, EqualEffect, Canonicals, Groupings, AsWriter, Replacements, Answered, Onlys, Written, Kept, Refusals, RefusalNumbers}
 use Rattle.sparse_join_rules.proofs.Answering.{answer-pair, answer-large, answer-short, answer-joined, answer-image, output-refused, output-joined}
 use Rattle.sparse_join_rules.proofs.Blocks.{group-onto, length-joined, joined-at, fit-joined, whole, cells-joined, cells-many, over-joined}
+use Rattle.sparse_join_rules.proofs.Lengths.{join-bytes-most}
 
 -- ---- the image
 
@@ -79,10 +80,14 @@ module _ {s t : List ℕ} (j : Joinable s t) where
   unfolding join
   join-reads room h = encoded .reads (blockSize s) (joinedBlocks s t) room (whole j) (rw (length-joined (j .matched)) h)
 
-  -- it is no longer than the bound
-  pub join-most : length (join s t) ≤ bound s
+  -- it is no longer than its blocks allow
+  join-blocks-most : length (join s t) ≤ blocksBound s
   unfolding join
-  join-most = rw (length-joined (j .matched)) at (bounded .encoded (blockSize s) (joinedBlocks s t) (whole j))
+  join-blocks-most = rw (length-joined (j .matched)) at (bounded .encoded (blockSize s) (joinedBlocks s t) (whole j))
+
+  -- nor than the bytes of the two
+  pub join-most : length (join s t) ≤ bound s t
+  join-most = omega (arith, join-blocks-most, join-bytes-most (j .matched))
 
   -- with room it leaves what the first and then the second leave
   leaves-room : (p : List ℕ) → needed s ≤ length p → store (join s t) p ≡ store t (store s p)

@@ -3,7 +3,7 @@
 use mathlib.Core.Bool.{Bool}
 use mathlib.Core.Option.{none, some}
 use mathlib.Core.List.{List, [], _∷_}
-use Prim.Native.Nat.{ℕ, _+_, _*_}
+use Prim.Native.Nat.{ℕ, _+_, _*_, min}
 use lib.Dec.{ltb}
 use lib.ListN.{length}
 use Rattle.rules.specs.Answer.{Answer}
@@ -42,6 +42,14 @@ answer s t room = pairAnswer s t (joinTests s t room) (length (join s t))
 unfoldable pub output : List ℕ → List ℕ → List ℕ → List ℕ
 output s t out = leftBy (answer s t (length out)) (join s t) out
 
--- a length that no joining with an image passes: a caller can size its output by it
-abbrev pub bound : List ℕ → ℕ
-bound s = 28 + needed s + 12 * totalBlocks s
+-- a caller can size its output by a length that no joining passes: by the blocks, the header, their bytes and 12 for each
+abbrev pub blocksBound : List ℕ → ℕ
+blocksBound s = 28 + needed s + 12 * totalBlocks s
+
+-- or by the two images, four times their bytes
+abbrev pub bytesBound : List ℕ → List ℕ → ℕ
+bytesBound s t = 4 * (length s + length t)
+
+-- the lesser is enough
+abbrev pub bound : List ℕ → List ℕ → ℕ
+bound s t = min (blocksBound s) (bytesBound s t)

@@ -40,7 +40,7 @@ pub record Joined (s t : List ℕ) : Type 0 where
   -- "the effect of the first followed by the second, on every partition": where one has no room, none of the three stores anything
   pub leaves : (p : List ℕ) → store (join s t) p ≡ store t (store s p)
   -- it is no longer than this
-  pub most : length (join s t) ≤ bound s
+  pub most : length (join s t) ≤ bound s t
 
 -- of every two
 abbrev pub Joins : Type 0
@@ -108,7 +108,7 @@ pub record Told (s t : List ℕ) (room : ℕ) : Type 0 where
   -- and where it is not
   pub fits : needed s ≤ 2147483648 → length (join s t) ≤ room → answer s t room ≡ accepted (length (join s t))
   -- an output of the bound's length is never too short
-  pub enough : Bytes s → Bytes t → needed s ≤ 2147483648 → bound s ≤ room → answer s t room ≡ accepted (length (join s t))
+  pub enough : Bytes s → Bytes t → needed s ≤ 2147483648 → bound s t ≤ room → answer s t room ≡ accepted (length (join s t))
   -- a refusal is of neither image
   pub image : refusedImage s t ≡ 0
 

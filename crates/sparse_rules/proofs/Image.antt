@@ -2,11 +2,14 @@
 -- Assumes nothing.
 use mathlib.Core.Path.{_≡_, refl, ap}
 use mathlib.Core.Option.{some}
-use mathlib.Core.List.{List, [], map}
-use Prim.Native.Nat.{ℕ, _*_}
+use mathlib.Core.List.{List, [], _∷_, map}
+use Prim.Native.Nat.{ℕ, zero, suc, _+_, _*_, _≤_}
+use native.Mathlib.Nat.{zero-lt-suc}
+use native.Mathlib.Numerals.{sub-one}
 use native.Mathlib.Omega.{arith}
 use lib.ListN.{length}
 use Rattle.sparse_rules.specs.declared.Header.{Header}
+use Rattle.sparse_rules.specs.declared.Cursor.{Cursor}
 use Rattle.sparse_rules.specs.declared.Kind.the-variants.{Raw, Fill}
 use Rattle.sparse_rules.specs.declared.Chunk.{Chunk}
 use Rattle.sparse_rules.specs.declared.Counts.{Counts}
@@ -17,8 +20,10 @@ use Rattle.sparse_rules.specs.Cells.{tab, rawByte, fillByte, cellsBy, ce
 use Rattle.sparse_rules.specs.Judge.{structure, judged, effectOf, effect}
 use Rattle.sparse_rules.specs.Counts.{countsOf}
 use Rattle.sparse_rules.specs.Answers.{answerFor, answer}
+use Rattle.sparse_rules.specs.Facts.{dataBytes}
 use Rattle.rules.proofs.Answer.{accepted-same}
-use Rattle.sparse_rules.proofs.Facts.{accepted-facts}
+use Rattle.sparse_rules.proofs.Walk.{stepped, ended}
+use Rattle.sparse_rules.proofs.Facts.{chunk-facts, accepted-facts}
 
 -- ---- an image
 
@@ -43,6 +48,31 @@ module _ (s : List ℕ) (room : ℕ) where
       → walk s (length s) (headerOf s) (totalChunks s) (origin (headerOf s)) ≡ accepted ks
   unfolding structure
   chunks-walked ks e = accepted-facts s (length s) room ks e .chunks
+
+-- ---- how long an image is
+
+-- what chunks take of an image at least, at a block size: a header of 12 bytes each, and their data
+abbrev pub taken : ℕ → List Chunk → ℕ
+taken b [] = 0
+taken b (k ∷ ks) = 12 + dataBytes (k .kind) (k .blocks) b + taken b ks
+
+-- an accepted walk's chunks lie one after the other
+taken-walk : (s : List ℕ) (len : ℕ) (h : Header) → 12 ≤ h .head → (n : ℕ) (c : Cursor) (ks : List Chunk) → walk s len h n c ≡ accepted ks → c .at ≤ len
+    → c .at + taken (h .block) ks ≤ len
+taken-walk s len h p zero c ks e l = rw (ended s len h zero c ks e refl .none) (omega arith)
+taken-walk s len h p (suc n) c ks e l =
+    let d = stepped s len h (suc n) c ks e (zero-lt-suc n) in
+    let f = chunk-facts s len h c (d .here) (d .next) (d .read) in
+    let r = taken-walk s len h p n (d .next) (d .rest) (rw sub-one at (d .walked)) (f .inside) in
+    rw (d .found) (omega (arith, f .body, f .data-inside, r))
+
+-- an accepted image has room for its header and for what its chunks take
+pub taken-least : (s : List ℕ) (room : ℕ) (ks : List Chunk) → judged s (length s) room ≡ accepted ks → 28 + taken (blockSize s) ks ≤ length s
+taken-least s room ks e =
+    let h = accepted-facts s (length s) room ks e .header in
+    omega (arith, h .start-least, taken-walk s (length s) (headerOf s) (h .head-least) (totalChunks s) (origin (headerOf s)) ks (chunks-walked s room ks e) (h .start-inside))
+
+-- ---- an answer
 
 -- a finding that is answered with counts has chunks of so many blocks
 pub record Counted (f : Finding) (c : Counts) : Type 0 where

@@ -1,19 +1,20 @@
 -- Laws of the parts of an image: the chunks of runs one after the other, and how long the parts are.
 -- Assumes nothing.
 use mathlib.Core.Path.{_≡_, refl, sym, ap, ap₂, _∙_}
+use mathlib.Core.Bool.{Bool, true, false, cond}
 use mathlib.Core.List.{List, [], _∷_, _++_, append-assoc}
-use Prim.Native.Nat.{ℕ, _+_, _*_, _≤_}
-use native.Mathlib.Nat.{add-mul}
+use Prim.Native.Nat.{ℕ, zero, suc, _+_, _*_, _≤_}
+use native.Mathlib.Nat.{add-mul, suc-mul}
 use native.Mathlib.Omega.{arith}
-use lib.ListN.{length, length-append}
+use lib.ListN.{length, replicate, length-append}
 use Rattle.fields_rules.specs.Number.{packed}
 use Rattle.sparse_rules.specs.Cells.{tab, rawByte}
 use Rattle.sparse_rules.proofs.Cells.{length-tab}
-use Rattle.sparse_write_rules.specs.Kinds.{BlockKind, kept, raw, fill}
-use Rattle.sparse_write_rules.specs.Runs.{Run}
+use Rattle.sparse_write_rules.specs.Kinds.{BlockKind, kept, raw, fill, sameKind}
+use Rattle.sparse_write_rules.specs.Runs.{Run, inFront, runs}
 use Rattle.sparse_write_rules.specs.Encode.{chunkSize, chunkHeader, chunk, chunks, version, header}
 use Rattle.sparse_write_rules.specs.Parts.{chunkTop, chunkRest, sizes}
-use Rattle.sparse_write_rules.proofs.Runs.{counted}
+use Rattle.sparse_write_rules.proofs.Runs.{of, tells-kinds, front-same, begins, counted}
 
 -- no runs have no chunks
 pub chunks-nil : (b : ℕ) (d : List ℕ) (at : ℕ) → chunks b d at [] ≡ []
@@ -99,6 +100,32 @@ pub size-grows : (kind : BlockKind) (m n : ℕ) → m ≤ n → chunkSize kind m
 size-grows kept m n h = omega arith
 size-grows raw m n h = omega arith
 size-grows (fill w) m n h = omega arith
+
+-- two chunks of a kind are no shorter than one over the bytes of both
+size-both : (kind : BlockKind) (m n : ℕ) → chunkSize kind (m + n) ≤ chunkSize kind m + chunkSize kind n
+size-both kept m n = omega arith
+size-both raw m n = omega arith
+size-both (fill w) m n = omega arith
+
+-- one more block in front of runs makes them longer by a chunk of its own at most
+pub sizes-front : (b : ℕ) (k : BlockKind) (rs : List (Run BlockKind)) → sizes b (inFront sameKind k rs) ≤ chunkSize k b + sizes b rs
+sizes-front b k [] = let z : 1 * b ≡ b = omega arith in rw z (omega arith)
+sizes-front b k (r ∷ rs) = go (sameKind k (r .kind)) refl
+  where
+    go : (x : Bool) → sameKind k (r .kind) ≡ x → sizes b (cond x (of k (suc (r .many)) ∷ rs) (of k 1 ∷ r ∷ rs)) ≤ chunkSize k b + sizes b (r ∷ rs)
+    go true e = let z : suc (r .many) * b ≡ r .many * b + b = suc-mul (r .many) b in rw (z, ← (tells-kinds .sound k (r .kind) e)) (omega (arith, size-both k (r .many * b) b))
+    go false e = let z : 1 * b ≡ b = omega arith in rw z (omega arith)
+
+-- some more of one kind, whose chunks all have one size: by one such chunk at most
+pub sizes-alike : (b : ℕ) (k : BlockKind) → ((m n : ℕ) → chunkSize k m ≡ chunkSize k n) → (n : ℕ) (ks : List BlockKind)
+    → sizes b (runs sameKind (replicate n k ++ ks)) ≤ chunkSize k 0 + sizes b (runs sameKind ks)
+unfolding runs
+sizes-alike b k one zero ks = omega arith
+sizes-alike b k one (suc zero) ks = omega (arith, sizes-front b k (runs sameKind ks), one b 0)
+sizes-alike b k one (suc (suc n)) ks =
+    let f = begins sameKind tells-kinds k n ks in
+    let e : runs sameKind (replicate (suc (suc n)) k ++ ks) ≡ of k (suc (f .many)) ∷ f .rest = ap (inFront sameKind k) (f .is) ∙ front-same sameKind tells-kinds k (f .many) (f .rest) in
+    omega (arith, ap (sizes b) e, ap (sizes b) (f .is), one (suc (f .many) * b) (f .many * b), sizes-alike b k one (suc n) ks)
 
 -- the file header is 28 bytes
 pub length-header : (b total count sum : ℕ) → length (header b total count sum) ≡ 28
