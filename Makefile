@@ -82,7 +82,8 @@ test: build/tarpaulark build/tarpaulark-checked build/libtarpaulark.so build/sta
 peers: build/tarpaulark
 	bash tests/peers.sh
 
-# Tables of ratios: to a plain copy, to zlib's checksum and to Debian's tools; of the passes to the whole form.
+# Tables of ratios: to a plain copy, to zlib's checksum and to Debian's tools; of the passes to the whole form; of
+# comparing to memcmp; of joining to a plain copy and to zlib's checksum.
 bench: $(LIBRARY)
 	bash bench/run
 

@@ -12,6 +12,13 @@
 #define CHUNK_HEADER 12
 #define FILL_WORD 0xA5A5A5A5u
 
+/* The block size, and what part of the data are joined in smaller blocks: the image is up to four times as long. */
+#define BLOCK 4096
+#define PART 16
+
+/* Of so many runs a yardstick is the least. */
+#define YARDSTICK_RUNS 9
+
 /* The images that name the most bytes that can be joined, and how often they are joined for one time. */
 #define MOST_BLOCKS 32768
 #define LARGEST_BLOCK 65536
@@ -123,12 +130,12 @@ static void expect_joined(struct work *work)
     expect_stored(work);
 }
 
-static double time_pair(const struct second *second, struct work *work, size_t mib)
+static double time_pair(const struct second *second, struct work *work, uint32_t block, size_t length)
 {
     double least;
 
     work->calls = 1;
-    make_image(&kinds[RANDOM], work, mib);
+    make_raw_image(work, block, length);
     second->make(work);
     state_checksum(work, work->image, work->image_len);
     state_checksum(work, work->other, work->other_len);
@@ -152,11 +159,22 @@ struct yardsticks {
     double copy, checksum;
 };
 
+/* Taken once for all rows of so many flat bytes. */
+static struct yardsticks time_yardsticks(struct work *work, size_t length)
+{
+    struct yardsticks than;
+
+    make_raw_image(work, BLOCK, length);
+    than.copy = least_of(YARDSTICK_RUNS, copy, work);
+    than.checksum = least_of(YARDSTICK_RUNS, checksum, work);
+    return than;
+}
+
 static void put_row(const char *name, const struct work *work, double whole, double quarter, struct yardsticks than)
 {
     double each = whole / (double)work->calls;
 
-    printf("%-17s  %-8s %12.3f", name, work->unstated ? "none" : "stated", each * 1e6);
+    printf("%-17s  %5u  %-8s %12.3f", name, (unsigned)work->block, work->unstated ? "none" : "stated", each * 1e6);
     put_ratio((double)work->flat_len / 1e9, each);
     put_ratio(each, than.copy);
     put_ratio(each, than.checksum);
@@ -165,12 +183,31 @@ static void put_row(const char *name, const struct work *work, double whole, dou
     fflush(stdout);
 }
 
-static void put_pair(const struct second *second, struct work *work, size_t mib)
+static void put_pair(
+    const struct second *second, struct work *work, uint32_t block, size_t length, struct yardsticks than)
 {
-    double quarter = time_pair(second, work, mib / 4), whole = time_pair(second, work, mib);
-    struct yardsticks than = {best(copy, work), best(checksum, work)};
+    double quarter = time_pair(second, work, block, length / 4), whole = time_pair(second, work, block, length);
 
     put_row(second->name, work, whole, quarter, than);
+}
+
+static void put_pairs(struct work *work, size_t length)
+{
+    struct yardsticks than = time_yardsticks(work, length);
+
+    for (work->unstated = 1; work->unstated >= 0; work->unstated--)
+        for (size_t i = 0; i < sizeof seconds / sizeof seconds[0]; i++)
+            put_pair(&seconds[i], work, BLOCK, length, than);
+}
+
+/* Raw over raw, the first of the pairs. */
+static void put_small_blocks(struct work *work, size_t length)
+{
+    static const uint32_t blocks[] = {4, 16, 64, 256};
+    struct yardsticks than = time_yardsticks(work, length);
+
+    for (size_t i = 0; i < sizeof blocks / sizeof blocks[0]; i++)
+        put_pair(&seconds[0], work, blocks[i], length, than);
 }
 
 static void put_fills(struct work *work)
@@ -183,11 +220,10 @@ static void put_fills(struct work *work)
 
 void put_joinings(struct work *work, size_t mib)
 {
-    printf("%-17s  %-8s %12s %9s %9s %9s %9s\n", "data", "checksum", "microseconds", "GB/s", "/ memcpy", "/ crc32",
-           "growth");
-    for (work->unstated = 1; work->unstated >= 0; work->unstated--)
-        for (size_t i = 0; i < sizeof seconds / sizeof seconds[0]; i++)
-            put_pair(&seconds[i], work, mib);
+    printf("%-17s  %5s  %-8s %12s %9s %9s %9s %9s\n", "data", "block", "checksum", "microseconds", "GB/s", "/ memcpy",
+           "/ crc32", "growth");
+    put_pairs(work, mib << 20);
     work->unstated = 1;
+    put_small_blocks(work, (mib << 20) / PART);
     put_fills(work);
 }

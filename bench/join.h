@@ -1,7 +1,8 @@
 /*
  * Two images joined, against memcpy and zlib's checksum on the flat bytes of one: a first
  * image of raw blocks, and a second that writes all of them or every other one raw, fills
- * all, or keeps all; with checksums and without.
+ * all, or keeps all; with checksums and without. Then, without, one that writes all raw
+ * in small blocks, and two short images that name many large ones.
  */
 #ifndef JOIN_H
 #define JOIN_H

@@ -36,17 +36,22 @@ double now(void)
     return (double)time.tv_sec + (double)time.tv_nsec / 1e9;
 }
 
-double best(job *run, struct work *work)
+double least_of(int runs, job *run, struct work *work)
 {
     double least = run(work);
 
-    for (int i = 1; i < RUNS && least >= 0; i++) {
+    for (int i = 1; i < runs && least >= 0; i++) {
         double seconds = run(work);
 
         if (seconds < least)
             least = seconds;
     }
     return least;
+}
+
+double best(job *run, struct work *work)
+{
+    return least_of(RUNS, run, work);
 }
 
 double judge(struct work *work)
@@ -92,12 +97,21 @@ double checksum(struct work *work)
 #endif
 }
 
-size_t put_fill(uint8_t *image, uint32_t block, uint32_t blocks, uint32_t word)
+/* Makes an image of one chunk, whose data are given, that states no checksum; its length. */
+static size_t put_chunk(
+    uint8_t *image, uint32_t block, uint32_t blocks, uint32_t type, const void *data, size_t length)
 {
-    const uint32_t fields[] = {0xED26FF3A, 1, 12 << 16 | 28, block, blocks, 1, 0, 0xCAC2, blocks, 16, word};
+    const uint32_t size = 12 + (uint32_t)length;
+    const uint32_t fields[] = {0xED26FF3A, 1, 12 << 16 | 28, block, blocks, 1, 0, type, blocks, size};
 
     memcpy(image, fields, sizeof fields);
-    return sizeof fields;
+    memcpy(image + sizeof fields, data, length);
+    return sizeof fields + length;
+}
+
+size_t put_fill(uint8_t *image, uint32_t block, uint32_t blocks, uint32_t word)
+{
+    return put_chunk(image, block, blocks, 0xCAC2, &word, sizeof word);
 }
 
 static double write_image(struct work *work)
@@ -121,6 +135,14 @@ static void make_noise(uint8_t *at, size_t length)
         state ^= state << 17;
         memcpy(at + i, &state, 8);
     }
+}
+
+void make_raw_image(struct work *work, uint32_t block, size_t length)
+{
+    work->block = block;
+    work->flat_len = length;
+    make_noise(work->flat, length);
+    work->image_len = put_chunk(work->image, block, (uint32_t)(length / block), 0xCAC1, work->flat, length);
 }
 
 static void make_flat(const struct data *data, struct work *work, size_t mib)

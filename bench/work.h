@@ -40,11 +40,16 @@ void expect(int holds, const char *what);
 /* Processor time, which other work on the machine disturbs least. */
 double now(void);
 
-/* The least of some runs. */
+/* The least of so many runs, and of as many as are made where nothing else is said. */
+double least_of(int runs, job *run, struct work *work);
 double best(job *run, struct work *work);
 
 /* Makes the image of so many MiB of flat bytes; the time that writing it takes. */
 double make_image(const struct data *data, struct work *work, size_t mib);
+
+/* Makes so many random flat bytes, which are whole blocks, and the image of one raw chunk of them that states no
+   checksum. */
+void make_raw_image(struct work *work, uint32_t block, size_t length);
 
 /* Makes the partition zeros, and whether it holds the flat bytes. */
 void clear_partition(struct work *work);

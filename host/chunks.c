@@ -103,19 +103,18 @@ static bool has_unknown(const struct remarks *remarks)
     return remarks->chunks != 0 || remarks->blocks != 0;
 }
 
-/* Puts in words what chunks of unknown type there are. */
-static void word_unknown(const struct remarks *remarks, char text[REMARK])
+/* Puts in words what chunks of unknown type there are, and what becomes of their blocks. */
+static void word_unknown(const struct remarks *remarks, const char *become, char text[REMARK])
 {
-    char kept[64] = "no blocks";
+    char blocks[64] = "no blocks";
 
     if (remarks->blocks != 0)
-        snprintf(kept, sizeof kept, "%" PRIu64 " block%s kept as %s", remarks->blocks, plural(remarks->blocks),
-                 remarks->blocks == 1 ? "it was" : "they were");
+        snprintf(blocks, sizeof blocks, "%" PRIu64 " block%s %s", remarks->blocks, plural(remarks->blocks), become);
     if (remarks->chunks == 0)
-        snprintf(text, REMARK, "chunks of unknown type: %s", kept);
+        snprintf(text, REMARK, "chunks of unknown type: %s", blocks);
     else
         snprintf(text, REMARK, "%" PRIu64 " chunk%s of unknown type: %s; the first is 0x%04X at offset %" PRIu64,
-                 remarks->chunks, plural(remarks->chunks), kept, remarks->type, remarks->at);
+                 remarks->chunks, plural(remarks->chunks), blocks, remarks->type, remarks->at);
 }
 
 void say_remarks(const struct remarks *remarks)
@@ -126,7 +125,7 @@ void say_remarks(const struct remarks *remarks)
         advise("unchecked", unchecked);
     if (!has_unknown(remarks))
         return;
-    word_unknown(remarks, text);
+    word_unknown(remarks, remarks->blocks == 1 ? "kept as it was" : "kept as they were", text);
     advise("foreign", text);
 }
 
@@ -138,7 +137,7 @@ void say_remarks_of(const char *side, const struct remarks *remarks)
     if (!is_unchecked && !is_foreign)
         return;
     if (is_foreign)
-        word_unknown(remarks, text);
+        word_unknown(remarks, "not written", text);
     snprintf(line, sizeof line, "%s image: %s%s%s", side, is_unchecked ? unchecked : "",
              is_unchecked && is_foreign ? "; " : "", text);
     advise(side, line);

@@ -59,7 +59,8 @@ void say_counts(const uint64_t answer[TARPAULARK_JUDGE_ANSWER]);
    of unknown type, where there are. */
 void say_remarks(const struct remarks *remarks);
 
-/* Says the same of one of two images, in one line. */
+/* Says the same of one of two images, in one line; of blocks of unknown type only that it does not write them,
+   since the other may. */
 void say_remarks_of(const char *side, const struct remarks *remarks);
 
 #endif

@@ -4,12 +4,9 @@
 #include "pair.h"
 #include "refusals.h"
 
-/* Total blocks x block size of images that can be joined. */
-#define MOST_BYTES 2147483648u
-
 static bool is_too_large(const struct geometry *geometry)
 {
-    return geometry->total * geometry->block > MOST_BYTES;
+    return geometry->total * geometry->block > TARPAULARK_MOST_FLAT;
 }
 
 /* Of both refusals that have the number 17, the one that it is here. */
@@ -20,10 +17,15 @@ static const char *meaning_of(const struct pair *pair, uint32_t number)
     return refusal_meaning(number);
 }
 
-/* Images that are too large are refused, and need no room. */
-static uint64_t room_for(const struct geometry *geometry)
+/* The lesser of two lengths that are both enough. Images that get 17 in any case need no room. */
+static uint64_t room_for(const struct pair *pair)
 {
-    return is_too_large(geometry) ? 0 : TARPAULARK_JOIN_BOUND(geometry->total, geometry->block);
+    uint64_t by_length = TARPAULARK_JOIN_LENGTH_BOUND(pair->images[0].length, pair->images[1].length);
+    uint64_t by_blocks = TARPAULARK_JOIN_BOUND(pair->both->total, pair->both->block);
+
+    if (!is_geometry_equal(pair) || is_too_large(pair->both))
+        return 0;
+    return by_length < by_blocks ? by_length : by_blocks;
 }
 
 static void say_joined(uint64_t length, const uint64_t header[TARPAULARK_HEADER_ANSWER])
@@ -66,7 +68,7 @@ enum status join(const struct request *request)
     place = hold_place(request->words[2]);
     expect_neither(&pair, &place, "an image and OUT are one file: name another");
     hold_pair(&pair);
-    out = make_new(&place, room_for(pair.both));
+    out = make_new(&place, room_for(&pair));
     number = tarpaulark_join(pair.images[0].at, pair.images[0].length, pair.images[1].at, pair.images[1].length,
                              out.at, out.length, answer);
     expect_pair_read(&pair);

@@ -41,7 +41,8 @@ static const struct command {
     {"join", 3, 3, 0, join, "join A B OUT",
      "makes one sparse image of two of equal block size and total blocks: storing it leaves\n"
      "          what storing the first (A) and then the second (B) leaves; blocks that neither\n"
-     "          writes are kept; it is compact, and states its checksum"},
+     "          writes are kept; it is compact, and states its checksum; total blocks x block size\n"
+     "          is at most 2,147,483,648"},
     {"write", 3, 3, 0, write_image, "write FLAT BLOCK-SIZE OUT", "makes a sparse image from flat bytes"},
     {"sections", 1, 1, 0, sections, "sections BOOT-IMAGE",
      "prints the version of a boot image, then name, position and size of each\n"

@@ -81,8 +81,7 @@ enum status map(const struct request *request)
     uint32_t number;
     int error;
 
-    if (place.held >= 0 && is_same(&image.before, &place.old))
-        misused(NULL, "IMAGE and the SVG file are one file: name two");
+    expect_other(&place, &image, "IMAGE and the SVG file are one file: name two");
     hold_file(&image);
     number = begin_walk(&walk, &image, UINT64_MAX, answer);
     expect_read(&image);

@@ -25,8 +25,7 @@ void open_pair(struct pair *pair, const char *const paths[2])
 void expect_neither(const struct pair *pair, const struct place *place, const char *what)
 {
     for (size_t i = 0; i < 2; i++)
-        if (place->held >= 0 && is_same(&pair->images[i].before, &place->old))
-            misused(NULL, what);
+        expect_other(place, pair->images + i, what);
 }
 
 void hold_pair(struct pair *pair)

@@ -120,6 +120,12 @@ struct place hold_place(const char *path)
     return place;
 }
 
+void expect_other(const struct place *place, const struct mapped *file, const char *what)
+{
+    if (place->held >= 0 && is_same(&file->before, &place->old))
+        misused(NULL, what);
+}
+
 /* Gives a file a name in a folder, or makes one by that name; less than 0 where that cannot be. */
 typedef int giver(int folder, const char *name, int file);
 

@@ -20,6 +20,9 @@ struct place {
 /* A place that holds a regular file of one name, or nothing; anything else is bad usage. */
 struct place hold_place(const char *path);
 
+/* Bad usage, in these words, where the file in the place is this one. */
+void expect_other(const struct place *place, const struct mapped *file, const char *what);
+
 /* A new file of so many bytes in memory, without a name where the file system can do that, else with one that
    is removed when the program ends. It takes its place only by put_in_place. */
 struct mapped make_new(const struct place *place, uint64_t length);

@@ -15,10 +15,9 @@ enum status write_image(const struct request *request)
         misused(NULL, "BLOCK-SIZE is a number of bytes up to 4294967295");
     flat = open_file(request->words[0], READ_IMAGE);
     place = hold_place(request->words[2]);
-    if (place.held >= 0 && is_same(&flat.before, &place.old))
-        misused(NULL, "FLAT and OUT are one file: name two");
+    expect_other(&place, &flat, "FLAT and OUT are one file: name two");
     hold_file(&flat);
-    if (block >= 4 && flat.length <= 2147483648u)
+    if (block >= 4 && flat.length <= TARPAULARK_MOST_FLAT)
         room = TARPAULARK_WRITE_BOUND(flat.length, block);
     out = make_new(&place, room);
     number = tarpaulark_write(flat.at, flat.length, (uint32_t)block, out.at, out.length, answer);

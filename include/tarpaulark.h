@@ -55,9 +55,11 @@
  * other blocks cost nothing of their own, however many there are. Joining takes what
  * judging both images takes, and time in proportion to their chunks and to the bytes
  * of the raw blocks that come to be written, those of the second image and those of
- * the first that the second does not write: it goes over the chunks and these blocks
- * twice, to measure and then to copy, and once more over what it copies, for the
- * checksum. Blocks that are fill or kept cost nothing of their own. All else takes a
+ * the first that the second does not write. It goes over the chunks twice, to measure
+ * the image and then to write it, and both times scans these blocks, each up to its
+ * first word that differs, and twice where its kind is another than that of the block
+ * before it. Those that stay raw are gone over twice more, to copy them and for the
+ * checksum. Blocks of all other chunks cost nothing of their own. All else takes a
  * fixed number of steps.
  *
  * What a restart assumes
@@ -103,13 +105,22 @@
 /* Where the state of a pass has the known fields of the file header, once they have come. */
 #define TARPAULARK_PASS_HEADER 68
 
+/* The most flat bytes that are written as an image, and the most that two images which
+   are joined may name: total blocks x block size. */
+#define TARPAULARK_MOST_FLAT 2147483648u
+
 /* The most bytes that the image of flat bytes takes at a block size above 0. */
 #define TARPAULARK_WRITE_BOUND(flat_len, block_size) \
     (28 + (uint64_t)(flat_len) + 12 * ((uint64_t)(flat_len) / (block_size)))
 
-/* The most bytes that the joining of two images of so many blocks takes. */
+/* The most bytes that the joining of two images takes, by the blocks that they name and
+   by the lengths of the two. Both are proved: an output of either length is never too
+   short, so lend the lesser. Short images may name many blocks: for two of 44 bytes it
+   is 352 by their lengths, and by their blocks up to 8,589,934,620. */
 #define TARPAULARK_JOIN_BOUND(total_blocks, block_size) \
     (28 + (uint64_t)(total_blocks) * ((uint64_t)(block_size) + 12))
+#define TARPAULARK_JOIN_LENGTH_BOUND(first_len, second_len) \
+    (4 * ((uint64_t)(first_len) + (uint64_t)(second_len)))
 
 /*
  * Refusals. Tests run in the order listed, but for 13 before 12, 28, 27 before 26,
@@ -395,8 +406,9 @@ uint32_t tarpaulark_compare(
  * the 28 bytes of a header.
  *
  * 18 comes exactly when out is shorter than the joined image, so never where
- * TARPAULARK_JOIN_BOUND bytes are lent. Output bytes past the image, and all of them
- * after a refusal, keep what they held.
+ * TARPAULARK_JOIN_BOUND or TARPAULARK_JOIN_LENGTH_BOUND bytes are lent, whichever are
+ * fewer. Output bytes past the image, and all of them after a refusal, keep what they
+ * held.
  *
  * Refusals: the first image's own, 1 to 5 and 7 to 11; then the second's own; 17,
  * where block size or total blocks differ, or total blocks x block size is above

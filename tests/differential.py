@@ -25,6 +25,7 @@ import os
 import random
 import sys
 import time
+from functools import lru_cache
 from typing import (
     Any, Callable, Dict, Generator, List, NamedTuple, Optional, Sequence, Tuple, Union
 )
@@ -356,15 +357,31 @@ def numbers_lent(rng: random.Random, first: bytes, second: bytes) -> int:
     return max(0, pick(rng, (near, near, near, near, all_single, all_single, 0, below(rng, 99))))
 
 
+@lru_cache(maxsize=None)
+def compared_pairs() -> List[cases_compare.Images]:
+    """The pairs that the vectors compare."""
+    return cases_compare.listed_pairs()
+
+
+def compared_pair(rng: random.Random) -> cases_compare.Images:
+    """One of these, in either order."""
+    pair = pick(rng, compared_pairs())
+    return pair if below(rng, 2) == 0 else pair[::-1]
+
+
+def edge_image(rng: random.Random, size: int, total: int) -> bytes:
+    """A row of blocks of any kinds, at times with a minor version and reserved fields that are
+    not 0."""
+    row = "".join(pick(rng, cases_join.LETTERS) for _ in range(total))
+    plans = cases_join.row_plans(row, size, 1 + below(rng, 255), 1 + below(rng, total))
+    minor, reserved = (pick(rng, (0, 0, 1, 256, 65535)) for _ in range(2))
+    return cases_join.header_image(plans, size, minor, reserved)
+
+
 def edge_pair(rng: random.Random) -> cases_compare.Images:
-    """Two rows of blocks of any kinds, in chunks that end at other blocks in each image."""
+    """Two such rows, in chunks that end at other blocks in each image."""
     size, total = pick(rng, (4, 8, 12, 16, 64)), 1 + below(rng, 12)
-    rows = ["".join(pick(rng, cases_join.LETTERS) for _ in range(total)) for _ in range(2)]
-    cuts = [1 + below(rng, total) for _ in rows]
-    first, second = (
-        cases_join.row_image(row, size, 1 + below(rng, 255), cut) for row, cut in zip(rows, cuts)
-    )
-    return first, second
+    return edge_image(rng, size, total), edge_image(rng, size, total)
 
 
 def limit_pair(rng: random.Random) -> cases_compare.Images:
@@ -394,7 +411,7 @@ def zero_sum_pair(rng: random.Random) -> cases_compare.Images:
 
 def join_input(rng: random.Random) -> cases_compare.Images:
     """Two images as for a comparison, or such as are made for joining."""
-    makers = (edge_pair,) * 5 + (limit_pair, joined_twice, zero_sum_pair)
+    makers = (edge_pair,) * 5 + (limit_pair, joined_twice, zero_sum_pair) + (compared_pair,) * 3
     return pick(rng, (pair_input,) * 8 + makers)(rng)
 
 

@@ -1417,18 +1417,25 @@ def compared_at_length(tool: Tool) -> None:
     expect_changes(tool, runs, 4, 70003)
 
 
+def run_limited(
+    limit: str, tool: Tool, words: str, environment: Optional[Dict[str, str]] = None
+) -> "subprocess.CompletedProcess[str]":
+    """Runs it to its end under a limit that a shell sets before."""
+    return subprocess.run(["sh", "-c", f'{limit} exec "$0" {words}', tool.path], env=environment or tool.environment(),
+                          capture_output=True, text=True, timeout=LONGEST_WAIT, check=False)
+
+
 def no_memory(tool: Tool) -> None:
     """Where there is no memory for the list, that is told, in words and as an object."""
     save_alternating(300000, 2**31)
     environment = tool.environment()
-    limit = "ulimit -v 13000; "
+    limit = "ulimit -v 13000;"
     if b"__asan_init" in read(tool.path):
         limit = ""
         environment["ASAN_OPTIONS"] += ":max_allocation_size_mb=8:allocator_may_return_null=1"
     words = "cannot be compared; see that there is memory for 1048576 runs of 12 bytes each"
     for more in ("", " --json"):
-        done = subprocess.run(["sh", "-c", f'{limit}exec "$0" diff first second{more}', tool.path], env=environment,
-                              capture_output=True, text=True, timeout=LONGEST_WAIT, check=False)
+        done = run_limited(limit, tool, f"diff first second{more}", environment)
         said = json.loads(done.stdout)["words"] if more else done.stderr
         expect(done.returncode == 3 and words in said, "what is said", done)
 
@@ -1440,6 +1447,7 @@ def expect_joined(tool: Tool, first: bytes, second: bytes) -> bytes:
     save("first", first)
     save("second", second)
     done, told = tool.run("join first second both"), json.loads(tool.run("join first second other --json").stdout)
+    expect_end(done, 0)
     image = read("both")
     expect(image == join.image_of(first, second) == read("other"), f"the image of {first!r} and {second!r}", done)
     header = sparse.read_header(image)
@@ -1454,8 +1462,9 @@ def expect_joined(tool: Tool, first: bytes, second: bytes) -> bytes:
 
 
 def joint_remarks(image: bytes) -> str:
-    """What is remarked on an accepted image, in one line."""
-    return remarks_on(image).rstrip("\n").replace("\n", "; ")
+    """What is remarked on one of two accepted images, in one line; its unknown blocks may be written by the other."""
+    remarks = re.sub("kept as (it was|they were)", "not written", remarks_on(image))
+    return remarks.rstrip("\n").replace("\n", "; ")
 
 
 def stored_by(tool: Tool, partition: bytes, *images: bytes) -> bytes:
@@ -1559,6 +1568,50 @@ def joined_vast(tool: Tool) -> None:
         plans = first[:2] + [build.fill(b"less", 1), build.fill(bytes(4), 1), build.fill(b"less", blocks // 2 - 2)]
         image = expect_joined(tool, build.sparse_image(size, first), build.sparse_image(size, second))
         expect(image == build.sparse_image(size, plans), f"the image of blocks of {size} bytes")
+
+
+def joined_at_length(tool: Tool) -> None:
+    """Raw blocks of one word each become as many fill chunks: nearly four times the bytes of both images, which name
+    many blocks more."""
+    words = [struct.pack("<I", number) for number in range(1000)]
+    first = build.sparse_image(4, [build.raw(b"".join(words), 4), build.skip(2**28)])
+    second = build.sparse_image(4, [build.skip(1000 + 2**28)])
+    for pair in ((first, second), (second, first)):
+        image = expect_joined(tool, *pair)
+        expect(image == build.sparse_image(4, [*(build.fill(word, 1) for word in words), build.skip(2**28)]),
+               "the image of blocks of one word")
+        expect(len(image) > 3.9 * (len(first) + len(second)), f"{len(image)} bytes")
+
+
+def joined_in_little_room(tool: Tool) -> None:
+    """Short images are joined, and refused, however many blocks they name, where files are so limited that the writer
+    fails."""
+    limit, most = "ulimit -f 1;", 2**29
+    save("flat", bytes(4096))
+    expect_end(run_limited(limit, tool, "write flat 4 image"), 3, "nothing is changed")
+    first, second = (build.sparse_image(4, [build.fill(word, most)]) for word in (b"less", b"more"))
+    fewer, above = (build.sparse_image(4, [build.fill(b"less", blocks)]) for blocks in (most - 1, most + 1))
+    save("first", first)
+    save("second", second)
+    done = run_limited(limit, tool, "join first second both")
+    expect(done.returncode == 0 and read("both") == second, "two short images", done)
+    for number, pair in ((10, (first + b"\0", second)), (10, (first, second + b"\0")), (17, (first, fewer)),
+                         (17, (above, above)), (17, (fewer, above))):
+        save("first", pair[0])
+        save("second", pair[1])
+        with nothing_made():
+            expect_end(run_limited(limit, tool, "join first second both"), 1, f"refused {number} at ")
+
+
+def unknown_joined(tool: Tool) -> None:
+    """Of the unknown blocks of an image it is said only that it does not write them: the other image may."""
+    said = "{} image: 1 chunk of unknown type: 2 blocks not written; the first is 0xCAC5 at offset 44\n"
+    save("full", build.sparse_image(4, [build.fill(b"full", 3)]))
+    for words, side, image in (("full p7", "second", [build.fill(b"\xFF" * 4, 1), build.fill(b"full", 2)]),
+                               ("p7 full", "first", [build.fill(b"full", 3)])):
+        done = tool.run(f"join {words} both")
+        expect(done.returncode == 0 and done.stderr == said.format(side), words, done)
+        expect(read("both") == build.sparse_image(4, image), f"the image of {words}")
 
 
 def joined_over_links(tool: Tool) -> None:
@@ -2056,7 +2109,8 @@ CHECKS: Tuple[Callable[[Tool], None], ...] = (
     shown_from_pipes, shown_from_files, told_on_terminals,
     compared_as_the_reference, refused_as_the_reference, told_of_refusals, compared_vast, compared_mixed,
     compared_in_svg, compared_at_length, no_memory,
-    joined_as_the_reference, joined_in_groups, joins_refused, told_of_geometry, joined_vast, joined_over_links,
+    joined_as_the_reference, joined_in_groups, joins_refused, told_of_geometry, joined_vast, joined_at_length,
+    joined_in_little_room, unknown_joined, joined_over_links,
     slot_turns, flags_shown, states_in_words, counts_in_words, wrong_counts, old_records, other_lengths, old_made_new,
     old_of_any_bytes,
     help_and_version, same_words, not_printed, same_in_json, as_the_reference, names_of_any_bytes,

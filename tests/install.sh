@@ -72,7 +72,8 @@ static int use_join(const uint8_t *first, size_t first_len, const uint8_t *secon
     if (tarpaulark_join(first, first_len, second, second_len, out, second_len - 1, answer) != TARPAULARK_BAD_SPACE
         || answer[TARPAULARK_IMAGE] != 0 || answer[TARPAULARK_JOINED] != 0 || out[0] != 0
         || tarpaulark_join(first, first_len, second, second_len, out, sizeof out, answer) != 0
-        || answer[TARPAULARK_JOINED] != second_len)
+        || answer[TARPAULARK_JOINED] != second_len
+        || second_len > TARPAULARK_JOIN_LENGTH_BOUND(first_len, second_len))
         return 1;
     for (i = 0; i < second_len && out[i] == second[i]; i++)
         continue;

@@ -301,15 +301,19 @@ static void run_passes(size_t step)
     run_pass(store_piece, store_finish, step);
 }
 
-/* The image and the other one, compared and joined in both orders. */
-static void run_pair(void)
+/* A call on the image and the other one, in both orders. */
+static void measure_orders(void (*run)(void))
 {
     other_first = false;
-    measure(compare);
-    measure(join);
+    measure(run);
     other_first = true;
-    measure(compare);
-    measure(join);
+    measure(run);
+}
+
+static void run_pair(void)
+{
+    measure_orders(compare);
+    measure_orders(join);
 }
 
 static void run_whole(void)
@@ -396,24 +400,19 @@ static void try_sparse(void)
 /* Two images in space for any number of runs. */
 static void try_compare(void)
 {
-    for (runs_len = 0; runs_len <= BLOCKS * TARPAULARK_RUN; runs_len++) {
-        other_first = !other_first;
-        measure(compare);
-    }
+    for (runs_len = 0; runs_len <= BLOCKS * TARPAULARK_RUN; runs_len++)
+        measure_orders(compare);
     runs_len = BLOCKS * TARPAULARK_RUN;
-    measure(compare);
     expect(number == 0 && answer[TARPAULARK_RUNS] > 3, "the images are not compared");
 }
 
-/* Two images in outputs of any length. */
+/* Two images in outputs of every 61st length, and of one that is never too short. */
 static void try_join(void)
 {
-    for (joined_room = 0; joined_room < sizeof joined; joined_room += 61) {
-        other_first = !other_first;
-        measure(join);
-    }
+    for (joined_room = 0; joined_room < sizeof joined; joined_room += 61)
+        measure_orders(join);
     joined_room = sizeof joined;
-    measure(join);
+    measure_orders(join);
     expect(number == 0 && answer[TARPAULARK_JOINED] > 28, "the images are not joined");
 }
 
@@ -424,7 +423,7 @@ static void try_pairs(void)
     try_join();
     memcpy(other, image, image_len);
     other_len = image_len;
-    measure(compare);
+    measure_orders(compare);
     expect(number == 0 && answer[TARPAULARK_RUNS] == 4, "an image and itself are not compared");
     try_join();
     make_other(BLOCK / 2);

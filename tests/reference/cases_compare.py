@@ -37,12 +37,13 @@ class Case(NamedTuple):
 
 # The file and its lines.
 
-def encoded(case: Case) -> bytes:
-    """The case as it stands in the file."""
-    assert max(len(case.first), len(case.second)) <= LONGEST_IMAGE
-    assert 0 <= case.numbers <= MOST_NUMBERS
-    head = u32(len(case.first)) + u32(len(case.second)) + u32(case.numbers)
-    return head + case.first + case.second
+def encoded(case: Tuple[bytes, bytes, int], most: int) -> bytes:
+    """The case as it stands in the file: two images, and how many numbers or bytes are lent,
+    of which there may be so many."""
+    first, second, lent = case
+    assert max(len(first), len(second)) <= LONGEST_IMAGE
+    assert 0 <= lent <= most
+    return u32(len(first)) + u32(len(second)) + u32(lent) + first + second
 
 
 def first_space(numbers: int) -> Tuple[int, ...]:
@@ -625,12 +626,23 @@ def random_cases(rng: random.Random) -> List[Case]:
     return cases
 
 
-def group(rng: random.Random) -> Group:
-    """All cases of the group."""
+def listed_cases() -> List[Case]:
+    """All cases that are not random."""
     cases = layout_cases() + two_chunk_cases() + empty_chunk_cases() + pattern_cases()
     cases += one_byte_cases() + one_word_cases() + near_cases() + fill_cases() + recut_cases()
     cases += long_block_cases() + zero_cases() + no_block_cases() + header_size_cases()
     cases += wide_cases() + space_cases() + refusal_cases() + damaged_cases()
-    cases += geometry_cases() + random_cases(rng)
+    return cases + geometry_cases()
+
+
+def listed_pairs() -> List[Images]:
+    """The images of these, each pair once."""
+    return list(dict.fromkeys((case.first, case.second) for case in listed_cases()))
+
+
+def group(rng: random.Random) -> Group:
+    """All cases of the group."""
+    cases = listed_cases() + random_cases(rng)
     lines = [cases[at:at + LINE_CASES] for at in range(0, len(cases), LINE_CASES)]
-    return Group(b"".join(map(encoded, cases)), [(line_checksum(line),) for line in lines])
+    data = b"".join(encoded(case, MOST_NUMBERS) for case in cases)
+    return Group(data, [(line_checksum(line),) for line in lines])

@@ -12,7 +12,7 @@ import join
 import sparse
 from build import ChunkPlan
 from cases_common import Group, u32
-from cases_compare import EMPTY_PLANS, LONGEST_IMAGE, OTHER, WORD, Images
+from cases_compare import EMPTY_PLANS, OTHER, WORD, Images
 from cases_sparse import MOST
 
 LONGEST_OUTPUT = 8192
@@ -22,6 +22,10 @@ RANDOM_PAIRS = 86
 # an image of some length.
 SPARES = (0, 1, 9, 0, 3, -1, 0, 40, 0, -12, 0, 2, 100, -4, 0, -28)
 REFUSED_ROOM = 56
+# Of the pairs that are compared, those of at most so many bytes are all joined, if they can be,
+# and one in so many of the others.
+SHORT_PAIR = 172
+OTHERS_STEP = 12
 
 
 class Case(NamedTuple):
@@ -33,14 +37,6 @@ class Case(NamedTuple):
 
 
 # The file and its lines.
-
-def encoded(case: Case) -> bytes:
-    """The case as it stands in the file."""
-    assert max(len(case.first), len(case.second)) <= LONGEST_IMAGE
-    assert 0 <= case.room <= LONGEST_OUTPUT
-    head = u32(len(case.first)) + u32(len(case.second)) + u32(case.room)
-    return head + case.first + case.second
-
 
 def first_output(length: int) -> bytes:
     """What the output holds at first."""
@@ -88,28 +84,16 @@ def spared(pairs: Sequence[Images]) -> List[Case]:
 
 # Pairs of the group `compare`.
 
+def is_short(images: Images) -> bool:
+    """Whether two images have few bytes together and are joined."""
+    return sum(map(len, images)) <= SHORT_PAIR and join.refusal_of(*images) is None
+
+
 def compared_pairs() -> List[Images]:
-    """Some pairs of each kind that are compared too, in both orders, each of them once."""
-    chosen = (
-        cases_compare.layout_cases()[::3],
-        cases_compare.two_chunk_cases()[::7],
-        cases_compare.empty_chunk_cases()[::3],
-        cases_compare.pattern_cases()[::5],
-        cases_compare.one_byte_cases()[::7],
-        cases_compare.one_word_cases()[:2],
-        cases_compare.near_cases()[:9:3],
-        cases_compare.fill_cases()[::2],
-        cases_compare.recut_cases()[::3],
-        cases_compare.zero_cases()[::3],
-        cases_compare.no_block_cases()[::3],
-        cases_compare.header_size_cases()[::3],
-        cases_compare.wide_cases()[::7],
-        cases_compare.space_cases(),
-        cases_compare.refusal_cases()[::7],
-        cases_compare.damaged_cases()[::5],
-        cases_compare.geometry_cases()[::7],
-    )
-    return list(dict.fromkeys((case.first, case.second) for cases in chosen for case in cases))
+    """Pairs that are compared too: all that are short and joined, and some of the others."""
+    pairs = cases_compare.listed_pairs()
+    others = [pair for pair in pairs if not is_short(pair)]
+    return list(filter(is_short, pairs)) + others[::OTHERS_STEP]
 
 
 # Rows of blocks, a letter each: fill with one word or another (f, g), raw with all words that one
@@ -256,17 +240,73 @@ def one_byte_pairs() -> List[Images]:
     return pairs
 
 
+def changed_pair(size: int, at: int, is_first: bool) -> Images:
+    """One raw block that holds one word but for a byte, in the first image or in the second,
+    and one that is kept."""
+    block = build.with_bytes(WORD * (size // 4), at, b"\x5A")
+    raw = build.sparse_image(size, [build.raw(block, size)])
+    kept = row_image("-", size, 0)
+    return (raw, kept) if is_first else (kept, raw)
+
+
 def long_pairs() -> List[Images]:
-    """Longer blocks that hold one word, or but for the last byte; many chunks; outputs longer
-    than either image."""
-    last = build.with_bytes(WORD * 512, 2047, b"\x5A")
-    pairs = [(row_image("-", 2048, 0), build.sparse_image(2048, [build.raw(last, 2048)]))]
-    pairs += [row_pair("r-", "-F", 512), row_pair("F-", "-r", 1024), row_pair("F", "-", 4032)]
+    """Longer blocks that hold one word, or but for a byte near the end; many chunks, and many
+    blocks in one; outputs longer than either image."""
+    pairs = [changed_pair(2048, 2047, False), changed_pair(2048, 2044, True)]
+    pairs += [changed_pair(2052, 2050, False), row_pair("F", "-", 4032)]
+    pairs += [row_pair("r-", "-F", 512), row_pair("F-", "-r", 1024)]
     pairs.append(row_pair("frF", "F-f", 512))
     pairs.append(row_pair("fg" * 40, "g-" * 40, 65536))
     pairs.append(row_pair("-?" * 40, "?-" * 40, 4))
-    pairs.append(row_pair("r" * 300, "-f" * 80 + "-" * 140, 8))
+    pairs.append(row_pair("r" * 300, "-f" * 20 + "-" * 260, 8))
+    pairs.append(row_pair("r" * 300, "-" * 300, 8))
     pairs.append(row_pair("FG" * 60, "-" * 120, 8))
+    pairs.append(row_pair("fg" * 64 + "-" * 129, "-" * 128 + "fg" * 64 + "f", 4))
+    return pairs
+
+
+def all_different(count: int) -> ChunkPlan:
+    """A raw chunk of so many blocks of 4 bytes, no two of them the same."""
+    return build.raw(b"".join(map(u32, range(count))), 4)
+
+
+def longest_pairs() -> List[Images]:
+    """Joined images that are long beside the two they are made of: a raw chunk of which each
+    block becomes a fill chunk of its own, in either image; fill chunks parted by those of the
+    other image."""
+    long, short = (build.sparse_image(4, [all_different(count)]) for count in (500, 40))
+    return [
+        (long, row_image("-" * 500, 4, 0, 500)),
+        (row_image("?" * 40, 4, 0), short),
+        row_pair("f" * 40, "-g" * 20, 4),
+        row_pair("f" * 40, "-r" * 20, 4),
+    ]
+
+
+# Fields that the joined image does not take over.
+
+FIELD_VALUES = (1, 255, 256, 65535)
+
+
+def header_image(plans: Sequence[ChunkPlan], size: int, minor: int, reserved: int) -> bytes:
+    """The image of some chunks, with a minor version, and a reserved field in each chunk."""
+    reserving = [plan._replace(reserved=reserved) for plan in plans]
+    return build.sparse_image(size, reserving, minor=minor)
+
+
+def header_pairs() -> List[Images]:
+    """Minor versions and reserved fields that are not 0, in the first image, in the second, in
+    both."""
+    pairs = []
+    for i, value in enumerate(FIELD_VALUES):
+        other = FIELD_VALUES[i - 1]
+        for k, (of_first, of_second) in enumerate(((1, 0), (0, 1), (1, 1))):
+            rows = ROWS[3 * (3 * i + k)]
+            first, second = (row_plans(row, 8, mark) for row, mark in zip(rows, (0x51, 0xA2)))
+            pairs.append((
+                header_image(first, 8, of_first * value, of_first * other),
+                header_image(second, 8, of_second * other, of_second * value),
+            ))
     return pairs
 
 
@@ -366,12 +406,13 @@ def product_pairs() -> List[Images]:
 
 def geometry_pairs() -> List[Images]:
     """Block size differs alone, total alone, and both with the product equal; one that is refused
-    itself beside one that is too large."""
+    itself beside one that is too large, and after it."""
     images = [row_image("f" * total, size, 0) for size, total in ((4, 4), (8, 4), (8, 2), (4, 8))]
     large = build.sparse_image(4, [build.skip(2**29 + 1)])
     wrong = build.stating(large, 1)
     pairs = list(itertools.permutations(images, 2))
     pairs += [(wrong, large), (large, wrong), (wrong, wrong), (wrong, images[0])]
+    pairs += [(large, bad) for bad in cases_compare.refused_images()[1::4]]
     return pairs + [(images[0], wrong), (large, images[0]), (images[0], large)]
 
 
@@ -427,11 +468,12 @@ def random_pairs(rng: random.Random) -> List[Images]:
 
 
 def group(rng: random.Random) -> Group:
-    """All cases of the group."""
-    pairs = compared_pairs() + letter_pairs() + neighbour_pairs() + row_pairs() + kept_pairs()
-    pairs += cut_pairs() + flat_pairs() + one_byte_pairs() + long_pairs() + unstated_pairs()
-    pairs += zero_sum_pairs() + small_pairs() + product_pairs() + geometry_pairs()
-    pairs += refused_pairs() + three_pairs() + random_pairs(rng)
-    cases = spared(pairs) + room_cases()
+    """All cases of the group: each pair once, and some with many rooms."""
+    pairs = header_pairs() + unstated_pairs() + zero_sum_pairs() + small_pairs() + product_pairs()
+    pairs += geometry_pairs() + refused_pairs() + three_pairs() + row_pairs() + kept_pairs()
+    pairs += cut_pairs() + flat_pairs() + one_byte_pairs() + long_pairs() + longest_pairs()
+    pairs += letter_pairs() + neighbour_pairs() + compared_pairs() + random_pairs(rng)
+    cases = spared(list(dict.fromkeys(pairs))) + room_cases()
     lines = [cases[at:at + LINE_CASES] for at in range(0, len(cases), LINE_CASES)]
-    return Group(b"".join(map(encoded, cases)), [(line_checksum(line),) for line in lines])
+    data = b"".join(cases_compare.encoded(case, LONGEST_OUTPUT) for case in cases)
+    return Group(data, [(line_checksum(line),) for line in lines])

@@ -108,15 +108,16 @@ def has_few_blocks(case: Case) -> bool:
     return max(total_of(case.first), total_of(case.second)) <= MOST_SLOW
 
 
-def cases_in(data: bytes) -> List[Case]:
-    """The cases of the group, as its file has them."""
+def cases_in(data: bytes) -> List[Tuple[bytes, bytes, int]]:
+    """The cases of a group of pairs, as its file has them: two images, and how many numbers or
+    bytes are lent."""
     cases = []
     at = 0
     while at < len(data):
-        first_length, second_length, numbers = struct.unpack_from("<III", data, at)
+        first_length, second_length, lent = struct.unpack_from("<III", data, at)
         middle = at + 12 + first_length
         end = middle + second_length
-        cases.append(Case(data[at + 12:middle], data[middle:end], numbers))
+        cases.append((data[at + 12:middle], data[middle:end], lent))
         at = end
     return cases
 
@@ -124,7 +125,7 @@ def cases_in(data: bytes) -> List[Case]:
 @lru_cache(maxsize=None)
 def cases_of_vectors() -> List[Case]:
     """The cases that the vectors have, with other random ones."""
-    return cases_in(cases_compare.group(random.Random(53)).data)
+    return [Case(*case) for case in cases_in(cases_compare.group(random.Random(53)).data)]
 
 
 class TestExamples(unittest.TestCase):

@@ -5,11 +5,10 @@ Run by `python3 tests/reference/test_join.py`.
 
 import itertools
 import random
-import struct
 import unittest
 import unittest.mock
 from functools import lru_cache
-from typing import Any, Callable, Dict, Iterator, List, Optional, Sequence, Set, Tuple
+from typing import Any, Callable, Dict, Iterable, Iterator, List, Optional, Sequence, Set, Tuple
 
 import build
 import cases_compare
@@ -21,12 +20,15 @@ import crc
 import join
 import sparse
 import store
+import test_compare
 import writer
+from build import ChunkPlan
+from cases_common import some_bytes
 from cases_compare import OTHER, WORD, Block, Images
 from cases_join import Case
 from compare import Meeting, Refusal
 from join import Joined
-from test_compare import P2, P7, RAW, ROOM, blocks_given, pick_second
+from test_compare import P2, P7, RAW, ROOM, block_at, blocks_given, cases_in, pick_second, total_of
 
 MOST_SLOW_BYTES = 30_000
 # P9 of document 01: `FF FF FF FF` and twelve zero bytes, block size 8.
@@ -46,9 +48,14 @@ P2_RAW = bytes.fromhex(
 
 # A second, slow formulation: each block after both images, then its chunks.
 
-def blocks_after(first: Sequence[Block], second: Sequence[Block]) -> List[Block]:
+def block_after(one: Block, other: Block) -> Block:
     """"the effect of the first followed by the second"."""
-    return [one if other is None else other for one, other in zip(first, second)]
+    return one if other is None else other
+
+
+def blocks_after(first: Sequence[Block], second: Sequence[Block]) -> List[Block]:
+    """The same of all blocks."""
+    return [block_after(one, other) for one, other in zip(first, second)]
 
 
 def chunk_of(block: Block) -> Tuple[int, bytes]:
@@ -60,63 +67,101 @@ def chunk_of(block: Block) -> Tuple[int, bytes]:
     return 0xCAC1, b""
 
 
+def plans_of(blocks: Iterable[Tuple[int, Block]]) -> List[ChunkPlan]:
+    """The chunks of a row of blocks, each of which comes so many times."""
+    plans = []
+    for (chunk_type, word), same in itertools.groupby(blocks, lambda given: chunk_of(given[1])):
+        run = list(same)
+        data = b"".join(block or b"" for _, block in run) if chunk_type == 0xCAC1 else word
+        plans.append(ChunkPlan(chunk_type, sum(count for count, _ in run), data))
+    return plans
+
+
 def slow_image(size: int, blocks: Sequence[Block]) -> bytes:
     """The compact image of a row of blocks."""
-    chunks = []
-    for (chunk_type, word), same in itertools.groupby(blocks, chunk_of):
-        run = list(same)
-        data = b"".join(block or b"" for block in run) if chunk_type == 0xCAC1 else word
-        chunks.append(struct.pack("<HHII", chunk_type, 0, len(run), 12 + len(data)) + data)
     checksum = crc.checksum(b"".join(block or bytes(size) for block in blocks))
-    head = (0xED26FF3A, 1, 0, 28, 12, size, len(blocks), len(chunks), checksum)
-    return struct.pack("<IHHHHIIII", *head) + b"".join(chunks)
+    return build.sparse_image(size, plans_of((1, block) for block in blocks), checksum=checksum)
+
+
+def starts_in(image: bytes) -> Set[int]:
+    """The blocks that may differ from the one before, which are the first of each chunk and all
+    of a raw one; and the total."""
+    starts = {total_of(image)}
+    for kind, first, blocks, _, _ in sparse.chunks_of(image):
+        starts |= set(range(first, first + blocks)) if kind == "raw" else {first}
+    return starts
+
+
+def long_image(first: bytes, second: bytes) -> bytes:
+    """The joined image of two that may have many blocks, from such blocks alone."""
+    starts = sorted(starts_in(first) | starts_in(second))
+    blocks = [
+        (end - at, block_after(block_at(first, at), block_at(second, at)))
+        for at, end in zip(starts, starts[1:])
+    ]
+    return build.sparse_image(sparse.read_header(first).block_size, plans_of(blocks))
+
+
+def has_few_bytes(image: bytes) -> bool:
+    """Whether each byte of its blocks can be looked at."""
+    return cases_store.total_length(image) <= MOST_SLOW_BYTES
+
+
+def slow_pair_image(first: bytes, second: bytes) -> bytes:
+    """The joined image of two accepted ones of equal geometry."""
+    if not has_few_bytes(first):
+        return long_image(first, second)
+    blocks = blocks_after(blocks_given(first), blocks_given(second))
+    return slow_image(sparse.read_header(first).block_size, blocks)
 
 
 def slow_join(first: bytes, second: bytes, output: bytes) -> Joined:
-    """The answer for images of few bytes, each judged for the longest partition."""
+    """The answer, each image judged for the longest partition."""
     for which, image in enumerate((first, second), 1):
         verdict = sparse.judge(image, ROOM)
         if isinstance(verdict, sparse.Refusal):
             return Joined(verdict.number, verdict.place, which, 0, output)
-    if first[12:20] != second[12:20]:
+    if first[12:20] != second[12:20] or cases_store.total_length(first) > 2_147_483_648:
         return Joined(17, 0, 0, 0, output)
-    blocks = blocks_after(blocks_given(first), blocks_given(second))
-    image = slow_image(sparse.read_header(first).block_size, blocks)
+    image = slow_pair_image(first, second)
     if len(output) < len(image):
         return Joined(18, 0, 0, 0, output)
     return Joined(0, 0, 0, len(image), image + output[len(image):])
 
 
-def has_few_bytes(case: Case) -> bool:
-    """Whether the slow formulation can take both images, damaged ones too."""
-    lengths = [cases_store.total_length(image) for image in (case.first, case.second)]
-    return max(lengths) <= MOST_SLOW_BYTES
-
-
-def cases_in(data: bytes) -> List[Case]:
-    """The cases of the group, as its file has them."""
-    cases = []
-    at = 0
-    while at < len(data):
-        first_length, second_length, room = struct.unpack_from("<III", data, at)
-        middle = at + 12 + first_length
-        end = middle + second_length
-        cases.append(Case(data[at + 12:middle], data[middle:end], room))
-        at = end
-    return cases
+def wrong_ends(first: bytes, second: bytes, image: bytes) -> List[int]:
+    """The blocks at either end of a chunk, of two images or of their joined one, which that one
+    does not give as "the first followed by the second"."""
+    chunks = [chunk for each in (first, second, image) for chunk in sparse.chunks_of(each)]
+    ends = {end for _, at, blocks, _, _ in chunks if blocks > 0 for end in (at, at + blocks - 1)}
+    return [
+        block for block in sorted(ends)
+        if block_at(image, block) != block_after(block_at(first, block), block_at(second, block))
+    ]
 
 
 @lru_cache(maxsize=None)
 def cases_of_vectors() -> List[Case]:
     """The cases that the vectors have, with other random ones."""
-    return cases_in(cases_join.group(random.Random(73)).data)
+    return [Case(*case) for case in cases_in(cases_join.group(random.Random(73)).data)]
 
 
-def accepted_pairs() -> Iterator[Images]:
+@lru_cache(maxsize=None)
+def compared_pairs() -> List[Images]:
+    """Every pair that is compared in the vectors, in both orders."""
+    pairs = [(case.first, case.second) for case in test_compare.cases_of_vectors()]
+    return list(dict.fromkeys(pairs + [(second, first) for first, second in pairs]))
+
+
+def accepted(pairs: Iterable[Images]) -> List[Images]:
+    """The pairs that are joined, given room."""
+    return [pair for pair in pairs if join.refusal_of(*pair) is None]
+
+
+@lru_cache(maxsize=None)
+def accepted_pairs() -> List[Images]:
     """The pairs of the vectors that are joined."""
-    for first, second, _ in cases_of_vectors():
-        if join.refusal_of(first, second) is None:
-            yield first, second
+    return accepted((first, second) for first, second, _ in cases_of_vectors())
 
 
 def random_images(rng: random.Random, count: int, most: int) -> List[bytes]:
@@ -125,11 +170,6 @@ def random_images(rng: random.Random, count: int, most: int) -> List[bytes]:
     total = rng.randrange(most + 1)
     rows = [cases_compare.random_blocks(rng, size, total) for _ in range(count)]
     return [cases_compare.image_of(rng, size, row) for row in rows]
-
-
-def random_bytes(rng: random.Random, count: int) -> bytes:
-    """So many bytes of any value."""
-    return bytes(rng.getrandbits(8) for _ in range(count))
 
 
 class TestExamples(unittest.TestCase):
@@ -208,8 +248,9 @@ class TestSlow(unittest.TestCase):
             pair = cases_compare.random_pair(rng, (4, 8, 12, 16, 64), 16)
             first, second = cases_compare.images_of(rng, pair)
             image = slow_image(pair.size, blocks_after(pair.first, pair.second))
-            joined = self.check(first, second, random_bytes(rng, len(image) + rng.randrange(3)))
+            joined = self.check(first, second, some_bytes(rng, len(image) + rng.randrange(3)))
             self.assertEqual(joined.output[:joined.length], image)
+            self.assertEqual(long_image(first, second), image)
 
     def test_any_two_images(self) -> None:
         """Mostly of other geometry, or refused; and each with itself."""
@@ -218,16 +259,21 @@ class TestSlow(unittest.TestCase):
         for _ in range(1500):
             first, second = (cases_store.random_image(rng) for _ in range(2))
             second = pick_second(rng, first, second)
-            joined = self.check(first, second, random_bytes(rng, rng.randrange(300)))
+            joined = self.check(first, second, some_bytes(rng, rng.randrange(300)))
             found.add((joined.number, joined.image))
         self.assertLessEqual({(0, 0), (17, 0), (18, 0), (11, 1), (11, 2), (7, 1), (7, 2)}, found)
 
     def test_the_cases_of_the_vectors(self) -> None:
-        few = 0
-        for case in filter(has_few_bytes, cases_of_vectors()):
-            self.check(case.first, case.second, cases_join.first_output(case.room))
-            few += 1
-        self.assertGreater(few, 900)
+        for first, second, room in cases_of_vectors():
+            self.check(first, second, cases_join.first_output(room))
+        few = [first for first, _ in accepted_pairs() if has_few_bytes(first)]
+        self.assertGreater(len(few), 900)
+
+    def test_the_pairs_of_the_comparison(self) -> None:
+        """In both orders, and the random ones too."""
+        output = cases_join.first_output(cases_join.LONGEST_OUTPUT)
+        for first, second in compared_pairs():
+            self.assertNotEqual(self.check(first, second, output).number, 18)
 
 
 class TestStatements(unittest.TestCase):
@@ -239,7 +285,7 @@ class TestStatements(unittest.TestCase):
         for _ in range(600):
             pair = cases_compare.random_pair(rng, (4, 8, 12), 10)
             first, second = cases_compare.images_of(rng, pair)
-            old = random_bytes(rng, pair.size * len(pair.first) + rng.choice((0, 1, 9)))
+            old = some_bytes(rng, pair.size * len(pair.first) + rng.choice((0, 1, 9)))
             verdict, after = store.store(join.image_of(first, second), old)
             self.assertEqual(after, store.full_run([first, second], old)[1])
             assert isinstance(verdict, sparse.Accepted)
@@ -274,14 +320,14 @@ class TestStatements(unittest.TestCase):
         rng = random.Random(75)
         pairs = [cases_compare.images_of(rng, cases_compare.random_pair(rng, (4, 8, 12, 64), 14))
                  for _ in range(500)]
-        for first, second in pairs + list(accepted_pairs()):
+        for first, second in pairs + accepted_pairs():
             self.check_compact(join.image_of(first, second), *compare.geometry(first))
 
     def test_equal_effect_exactly_when_bytes_are_equal(self) -> None:
         """On two partitions that agree nowhere, since what is kept differs there."""
         rng = random.Random(76)
         for size, total in ((4, 3), (8, 2), (8, 3), (4, 0)):
-            old = random_bytes(rng, size * total)
+            old = some_bytes(rng, size * total)
             others = bytes(byte ^ 0xFF for byte in old)
             found: Dict[Tuple[bytes, bytes], Set[bytes]] = {}
             for _ in range(600):
@@ -301,7 +347,7 @@ class TestStatements(unittest.TestCase):
             a, b, c = random_images(rng, 3, 10)
             left = join.image_of(join.image_of(a, b), c)
             self.assertEqual(left, join.image_of(a, join.image_of(b, c)))
-            old = random_bytes(rng, cases_store.total_length(a))
+            old = some_bytes(rng, cases_store.total_length(a))
             self.assertEqual(store.store(left, old)[1], store.full_run([a, b, c], old)[1])
 
     def test_joined_with_itself_and_with_kept_blocks(self) -> None:
@@ -346,20 +392,28 @@ class TestStatements(unittest.TestCase):
             joined += 1
             image = join.image_of(first, second)
             self.check_compact(image, *compare.geometry(first))
-            ends = {chunk.first_block for each in (first, second, image)
-                    for chunk in sparse.chunks_of(each) if chunk.blocks > 0}
-            for block in ends | {max(0, end - 1) for end in ends}:
-                after = blocks_after([block_at(first, block)], [block_at(second, block)])
-                self.assertEqual([block_at(image, block)], after)
+            self.assertEqual(wrong_ends(first, second, image), [])
+            self.assertEqual(image, long_image(first, second))
         self.assertGreater(joined, 100)
 
+    def test_four_times_both_images(self) -> None:
+        """No joined image is longer than that, in bytes."""
+        rng = random.Random(83)
+        pairs = [cases_compare.images_of(rng, cases_compare.random_pair(rng, (4, 4, 8, 12), 40))
+                 for _ in range(500)]
+        for first, second in pairs + accepted_pairs() + accepted(compared_pairs()):
+            self.assertLessEqual(len(join.image_of(first, second)), 4 * len(first + second))
 
-def block_at(image: bytes, block: int) -> Block:
-    """One block of an accepted image that may have many."""
-    for chunk in sparse.chunks_of(image):
-        if chunk.first_block <= block < compare.chunk_end(chunk):
-            return compare.block_of(image, chunk, block) if sparse.is_written(chunk) else None
-    return None
+    def test_nearly_four_times_both_images(self) -> None:
+        """Blocks of 4 bytes, all different, are raw in one chunk, and then a fill chunk of 16
+        bytes each: but for headers, of 80 bytes and of 28, it is that."""
+        for count in (1, 2, 500, 4000):
+            raw = build.sparse_image(4, [cases_join.all_different(count)])
+            kept = build.sparse_image(4, [build.skip(count)])
+            for first, second in ((raw, kept), (kept, raw)):
+                joined = join.image_of(first, second)
+                self.assertEqual(len(joined), 28 + 16 * count)
+                self.assertEqual(len(joined), 4 * (len(first + second) - 80) + 28)
 
 
 class TestOutput(unittest.TestCase):
@@ -373,7 +427,7 @@ class TestOutput(unittest.TestCase):
             first, second = cases_compare.images_of(rng, pair)
             image = slow_image(pair.size, blocks_after(pair.first, pair.second))
             for room in range(len(image) + 8):
-                output = random_bytes(rng, room)
+                output = some_bytes(rng, room)
                 joined = join.join(first, second, output)
                 if room < len(image):
                     self.assertEqual(joined, Joined(18, 0, 0, 0, output))
@@ -384,7 +438,7 @@ class TestOutput(unittest.TestCase):
     def test_as_the_writer(self) -> None:
         rng = random.Random(82)
         for room in (64, 65, 100, 300):
-            output = random_bytes(rng, room)
+            output = some_bytes(rng, room)
             flat = b"\xFF" * 4 + bytes(12)
             written = writer.write(flat, 8, output)
             joined = join.join(P9, P9, output)
@@ -437,7 +491,10 @@ class TestRefusals(unittest.TestCase):
                     for room in (0, 300):
                         self.check(*pair, room, Refusal(17, 0, 0))
                 else:
-                    self.assertEqual(join.join(*pair, bytes(300)).number, 0)
+                    joined = join.join(*pair, bytes(300))
+                    self.assertEqual(joined, slow_join(*pair, bytes(300)))
+                    self.assertEqual(joined.number, 0)
+                    self.assertEqual(wrong_ends(*pair, joined.output[:joined.length]), [])
                     self.check(*pair, 27, Refusal(18, 0, 0))
 
     def test_room_is_never_too_little(self) -> None:
@@ -471,6 +528,7 @@ class TestRefusals(unittest.TestCase):
 
 right_last_written = join.last_written
 right_parts_of = join.parts_of
+right_image_of = join.image_of
 right_own_refusal = compare.own_refusal
 right_longest = writer.longest
 right_header_bytes = writer.header_bytes
@@ -551,6 +609,63 @@ def with_empty_chunk(parts: Any) -> List[writer.Part]:
     return right_longest(parts) or [writer.Part(sparse.DONT_CARE, 0, b"")]
 
 
+def raw_in_parts(parts: Any) -> List[writer.Part]:
+    """Raw chunks of at most 255 blocks."""
+    found: List[writer.Part] = []
+    for part in right_longest(parts):
+        if part.kind != sparse.RAW:
+            found.append(part)
+            continue
+        size = len(part.data) // part.blocks
+        for at in range(0, len(part.data), 255 * size):
+            data = part.data[at:at + 255 * size]
+            found.append(writer.Part(sparse.RAW, len(data) // size, data))
+    return found
+
+
+def field_of(which: int, at: int, length: int) -> Callable[[bytes, bytes], bytes]:
+    """Joined images that have a field of the file header from one of the two."""
+    def image_of(*images: bytes) -> bytes:
+        field = images[which][at:at + length]
+        return build.with_bytes(right_image_of(*images), at, field)
+    return image_of
+
+
+def reserved_at(image: bytes, block: int) -> bytes:
+    """The reserved field of the chunk that has a block."""
+    size = sparse.read_header(image).chunk_header_size
+    (at,) = (
+        chunk.data_at - size for chunk in sparse.chunks_of(image)
+        if chunk.first_block <= block < compare.chunk_end(chunk)
+    )
+    return image[at + 2:at + 4]
+
+
+def reserved_of(which: int) -> Callable[[bytes, bytes], bytes]:
+    """Joined images whose chunks have the reserved field from one of the two."""
+    def image_of(*images: bytes) -> bytes:
+        image = right_image_of(*images)
+        for chunk in sparse.chunks_of(image):
+            field = reserved_at(images[which], chunk.first_block)
+            image = build.with_bytes(image, chunk.data_at - 10, field)
+        return image
+    return image_of
+
+
+def chunks_in_8_bits(first: bytes, second: bytes) -> bytes:
+    """The count of chunks cut to 8 bits."""
+    return build.with_bytes(right_image_of(first, second), 21, bytes(3))
+
+
+def raw_blocks_in_8_bits(first: bytes, second: bytes) -> bytes:
+    """The count of blocks of each raw chunk cut to 8 bits."""
+    image = right_image_of(first, second)
+    for chunk in sparse.chunks_of(image):
+        if chunk.kind == sparse.RAW:
+            image = build.with_bytes(image, chunk.data_at - 7, bytes(3))
+    return image
+
+
 def word_of(part: slice) -> Callable[[bytes], Optional[bytes]]:
     """Blocks of which only a part is looked at."""
     def common_word(block: bytes) -> Optional[bytes]:
@@ -579,6 +694,16 @@ def own_of_larger(first: bytes, second: bytes) -> Optional[Refusal]:
     return own or compare.pair_refusal(first, second)
 
 
+def matched_by(measure: Callable[[bytes], Any]) -> Callable[[bytes, bytes], Optional[Refusal]]:
+    """17 only where one thing differs."""
+    def pair_refusal(first: bytes, second: bytes) -> Optional[Refusal]:
+        own = right_own_refusal(first, 1) or right_own_refusal(second, 2)
+        if own is None and measure(first) != measure(second):
+            return Refusal(17, 0, 0)
+        return own
+    return pair_refusal
+
+
 def refused_with_zeros(refusal: Refusal, output: bytes) -> Joined:
     """A refusal that clears the output."""
     return Joined(refusal.number, refusal.place, refusal.image, 0, bytes(len(output)))
@@ -602,6 +727,15 @@ WRONG_RULES: Tuple[Tuple[Any, str, Callable[..., Any]], ...] = (
     (writer, "longest", unmerged(sparse.DONT_CARE)),
     (writer, "longest", fills_of_any_word),
     (writer, "longest", with_empty_chunk),
+    (writer, "longest", raw_in_parts),
+    (join, "image_of", field_of(0, 6, 2)),
+    (join, "image_of", field_of(1, 6, 2)),
+    (join, "image_of", field_of(0, 8, 4)),
+    (join, "image_of", field_of(1, 8, 4)),
+    (join, "image_of", reserved_of(0)),
+    (join, "image_of", reserved_of(1)),
+    (join, "image_of", chunks_in_8_bits),
+    (join, "image_of", raw_blocks_in_8_bits),
     (writer, "common_word", lambda block: None),
     (writer, "common_word", word_of(slice(0, 8))),
     (writer, "common_word", word_of(slice(0, -4))),
@@ -617,7 +751,9 @@ WRONG_RULES: Tuple[Tuple[Any, str, Callable[..., Any]], ...] = (
     (join, "is_too_large", lambda image: False),
     (join, "refusal_of", own_of_larger),
     (compare, "own_refusal", lambda image, which: right_own_refusal(image, 1)),
-    (compare, "geometry", lambda image: (sparse.read_header(image).block_size, 0)),
+    (compare, "pair_refusal", matched_by(lambda image: image[12:16])),
+    (compare, "pair_refusal", matched_by(lambda image: image[16:20])),
+    (compare, "pair_refusal", matched_by(cases_store.total_length)),
     (join, "is_too_short", lambda image, room: len(image) >= room),
     (join, "is_too_short", lambda image, room: len(image) > room + 1),
     (join, "is_too_short", lambda image, room: bound_of(image) > room),
@@ -657,6 +793,12 @@ class TestCases(unittest.TestCase):
             found.add((joined.number, joined.image))
         own = set(itertools.product((1, 2, 3, 4, 5, 7, 8, 9, 10, 11), (1, 2)))
         self.assertEqual(found, own | {(0, 0), (17, 0), (18, 0)})
+
+    def test_pairs_of_the_comparison(self) -> None:
+        """More than half of those that are not random."""
+        compared = cases_compare.listed_pairs()
+        joined = {(first, second) for first, second, _ in cases_of_vectors()}
+        self.assertGreater(2 * len(joined.intersection(compared)), len(compared))
 
     def test_rooms(self) -> None:
         """Outputs that are short by a few bytes or by many, exact, and longer."""

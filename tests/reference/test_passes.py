@@ -16,6 +16,7 @@ import crc
 import passes
 import sparse
 import store
+from cases_common import some_bytes
 from cases_passes import P2, RAW, Pieces, at_random, by_bytes, in_two
 from cases_sparse import Case
 from passes import Answer, GoingOn, State
@@ -147,11 +148,6 @@ def with_due(partition: bytes, due: Dict[int, int]) -> bytes:
     return bytes(after)
 
 
-def random_bytes(rng: random.Random, count: int) -> bytes:
-    """So many bytes of any value."""
-    return bytes(rng.getrandbits(8) for _ in range(count))
-
-
 # Passes fed with pieces and then finished.
 
 def judged(pieces: Pieces, length: int, room: int) -> List[Answer]:
@@ -241,7 +237,7 @@ class TestWholeForm(unittest.TestCase):
     def test_small_images_in_every_way(self) -> None:
         rng = random.Random(13)
         for case in cases_passes.small_images():
-            old = random_bytes(rng, case.partition_length)
+            old = some_bytes(rng, case.partition_length)
             looks = [
                 look(case.image[:come], len(case.image), case.partition_length)
                 for come in range(len(case.image) + 1)
@@ -274,7 +270,7 @@ class TestWholeForm(unittest.TestCase):
         for image, room in all_cases():
             verdict = sparse.judge(image, min(room, 65536))
             if isinstance(verdict, Accepted):
-                old = random_bytes(rng, 1) * min(room, 65536)
+                old = some_bytes(rng, 1) * min(room, 65536)
                 pieces = at_random(rng, image, 8)
                 moments = stored(pieces, len(image), old)
                 self.assertEqual(moments[-1], Moment(*store.store(image, old)))
@@ -357,7 +353,7 @@ class TestMoments(unittest.TestCase):
             refusal, come = self.moment(image, len(image), room)
             if refusal is not None:
                 left = len(image) - come
-                for rest in (bytes(left), b"\xFF" * left, random_bytes(rng, left)):
+                for rest in (bytes(left), b"\xFF" * left, some_bytes(rng, left)):
                     self.assertEqual(sparse.judge(image[:come] + rest, room), refusal)
 
 
@@ -405,7 +401,7 @@ class TestCutStates(unittest.TestCase):
     def test_started_over(self) -> None:
         rng = random.Random(18)
         for image, room in accepted_cases():
-            old = random_bytes(rng, room)
+            old = some_bytes(rng, room)
             full = store.store(image, old)
             for moment in stored(by_bytes(image), len(image), old)[::7]:
                 again = stored([image], len(image), moment.partition)
@@ -489,7 +485,7 @@ class TestNoneStated(unittest.TestCase):
         rng = random.Random(20)
         for image in self.images():
             room = cases_store.total_length(image)
-            old = random_bytes(rng, room)
+            old = some_bytes(rng, room)
             for pieces in ([image], by_bytes(image), at_random(rng, image, 7)):
                 moments = stored(pieces, len(image), old)
                 self.assertEqual(moments[-1], Moment(*store.store(image, old)))
@@ -745,7 +741,7 @@ class TestAnyCalls(unittest.TestCase):
     def follow(self, rng: random.Random, image: bytes, length: int, room: int) -> str:
         """Follows a pass to its end, and says how it ended."""
         state, history = passes.begin(length, room), History(length, room)
-        partition = random_bytes(rng, room + 40)
+        partition = some_bytes(rng, room + 40)
         answer: Answer = GOING_ON
         taken = cases_passes.passes_taken(rng, room)
         for piece, lent in cases_passes.random_calls(rng, at_random(rng, image, 7), taken):
@@ -754,7 +750,7 @@ class TestAnyCalls(unittest.TestCase):
             self.assertEqual((answer, left), history.answer(piece, given))
             partition = (left or b"") + partition[len(left or b""):]
             if rng.randrange(13) == 0:
-                partition = random_bytes(rng, len(partition))
+                partition = some_bytes(rng, len(partition))
         return str(answer.number) if isinstance(answer, Refusal) else type(answer).__name__
 
     def test_random_calls(self) -> None:

@@ -20,6 +20,7 @@ import slots
 import sparse
 import store
 import writer
+from cases_common import some_bytes
 from slots import Record, Slot
 from sparse import Accepted, Refusal
 
@@ -36,22 +37,18 @@ ZERO_SUM_WORD = bytes.fromhex("9D0AD96D")
 OLD = bytes(range(100, 112))
 
 
-def random_bytes(rng: random.Random, count: int) -> bytes:
-    return bytes(rng.getrandbits(8) for _ in range(count))
-
-
 def random_plan(rng: random.Random, block_size: int) -> build.ChunkPlan:
     """A small chunk of any kind, sometimes empty."""
     blocks = rng.randrange(4)
     kind = rng.randrange(4)
     if kind == 0:
-        return build.raw(random_bytes(rng, blocks * block_size), block_size)
+        return build.raw(some_bytes(rng, blocks * block_size), block_size)
     if kind == 1:
-        return build.fill(random_bytes(rng, 4), blocks)
+        return build.fill(some_bytes(rng, 4), blocks)
     if kind == 2:
         return build.skip(blocks)
     other = rng.choice(cases_sparse.OTHER_TYPES)
-    return build.unknown(other, blocks, random_bytes(rng, 4 * rng.randrange(4)))
+    return build.unknown(other, blocks, some_bytes(rng, 4 * rng.randrange(4)))
 
 
 def random_image(rng: random.Random) -> bytes:
@@ -74,7 +71,7 @@ class TestCrc(unittest.TestCase):
     def test_bytes_as_by_bits(self) -> None:
         rng = random.Random(1)
         for length in list(range(70)) + [255, 256, 1000]:
-            data = random_bytes(rng, length)
+            data = some_bytes(rng, length)
             state = rng.getrandbits(32)
             self.assertEqual(crc.after_bytes(state, data), crc.after_bytes_by_bits(state, data))
             self.assertEqual(crc.checksum(data), crc.checksum_by_bits(data))
@@ -536,7 +533,7 @@ class TestStore(unittest.TestCase):
         rng = random.Random(5)
         for _ in range(200):
             image = random_image(rng)
-            partition = random_bytes(rng, rng.randrange(100))
+            partition = some_bytes(rng, rng.randrange(100))
             verdict, after = store.store(image, partition)
             self.assertEqual(verdict, sparse.judge(image, len(partition)))
             self.assertEqual(after, store.last_given([image], partition))
@@ -548,7 +545,7 @@ class TestDemand3(unittest.TestCase):
     def random_cuts(self, rng: random.Random, images: Sequence[bytes]) -> List[store.Cut]:
         cuts = []
         for _ in range(rng.randrange(6)):
-            torn = random_bytes(rng, rng.choice([0, 5, 12]))
+            torn = some_bytes(rng, rng.choice([0, 5, 12]))
             cuts.append(store.Cut(rng.randrange(len(images) + 1), rng.randrange(10), torn))
         return cuts
 
@@ -563,7 +560,7 @@ class TestDemand3(unittest.TestCase):
         rng = random.Random(6)
         for _ in range(150):
             images = [random_image(rng) for _ in range(rng.randrange(5))]
-            original = random_bytes(rng, rng.randrange(90))
+            original = some_bytes(rng, rng.randrange(90))
             cuts = self.random_cuts(rng, images)
             moments = store.cut_runs(images, original, cuts)
             verdicts, left = store.full_run(images, original)
@@ -632,12 +629,12 @@ class TestWriter(unittest.TestCase):
         for _ in range(200):
             block_size = rng.choice([4, 8, 16])
             flat = b"".join(
-                rng.choice([bytes(block_size), b"\x05" * block_size, random_bytes(rng, block_size)])
+                rng.choice([bytes(block_size), b"\x05" * block_size, some_bytes(rng, block_size)])
                 for _ in range(rng.randrange(12))
             )
             written = writer.write(flat, block_size, bytes(600))
             image = written.output[:written.length]
-            partition = random_bytes(rng, len(flat) + rng.randrange(9))
+            partition = some_bytes(rng, len(flat) + rng.randrange(9))
             verdict, after = store.store(image, partition)
             self.assertEqual(verdict, Accepted(len(flat) // block_size, 0, 0))
             self.assertEqual(after, flat + partition[len(flat):])

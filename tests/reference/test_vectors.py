@@ -16,11 +16,9 @@ import cases_slots
 import compare
 import crc
 import fields
-import join
 import slots
 import sparse
 import store
-import test_join
 import vectors
 import writer
 from cases_compare import Case
@@ -28,6 +26,7 @@ from join import Joined
 from passes import Answer, GoingOn
 from slots import Record, Slot
 from test_compare import cases_in, has_few_blocks, slow_answer
+from test_join import slow_join
 from test_passes import History
 
 LARGEST_IMAGE = 65536
@@ -35,7 +34,7 @@ LARGEST_STORED_IMAGE = 8192
 LARGEST_PARTITION = 4096
 LARGEST_WRITTEN = 69632
 LARGEST_COMPARED_IMAGE = 4096
-LARGEST_JOINED = 8192
+LARGEST_ROOM = 8192
 MOST_NUMBERS = 96
 LARGEST_OUTPUT = 450_000
 RECORD = 22
@@ -284,23 +283,22 @@ def compare_values(case: Case) -> Tuple[int, ...]:
 
 
 def compare_lines(data: bytes) -> Lines:
-    cases = cases_in(data)
+    cases = [Case(*case) for case in cases_in(data)]
     for at in range(0, len(cases), 16):
         found = [value for case in cases[at:at + 16] for value in compare_values(case)]
         yield (crc.checksum(struct.pack(f"<{len(found)}I", *found)),)
 
 
 def joined(case: cases_join.Case, room: int) -> Joined:
-    """The images of a case joined, block by block where they have few bytes."""
+    """The images of a case joined, by the slow formulation."""
     output = bytes((7 + 3 * i) % 256 for i in range(room))
-    is_slow = test_join.has_few_bytes(case)
-    return (test_join.slow_join if is_slow else join.join)(case.first, case.second, output)
+    return slow_join(case.first, case.second, output)
 
 
 def join_values(case: cases_join.Case) -> bytes:
     """The answer and the output after it, and those of an output that is a byte too short."""
     assert max(len(case.first), len(case.second)) <= LARGEST_COMPARED_IMAGE
-    assert case.room <= LARGEST_JOINED
+    assert case.room <= LARGEST_ROOM
     answers = [joined(case, case.room)]
     if answers[0].number == 0:
         answers.append(joined(case, answers[0].length - 1))
@@ -309,7 +307,7 @@ def join_values(case: cases_join.Case) -> bytes:
 
 
 def join_lines(data: bytes) -> Lines:
-    cases = test_join.cases_in(data)
+    cases = [cases_join.Case(*case) for case in cases_in(data)]
     for at in range(0, len(cases), 32):
         yield (crc.checksum(b"".join(map(join_values, cases[at:at + 32]))),)
 
