@@ -69,11 +69,14 @@ build/stack build/unread: build/%: tests/%.c include/tarpaulark.h $(LIBRARY)
 demo: build/tarpaulark
 	$(PYTHON) host/demo.py build/tarpaulark
 
-# The tool on examples, bad usage and faults; the stack that each exported function takes; that no data are read where no
-# checksum is stated; each function against the reference, for a minute.
+# The tool on examples, bad usage and faults; that the library holds one table of the checksum and no other; the stack
+# that each exported function takes; that no data are read where no checksum is stated; each function against the
+# reference, for a minute.
 test: build/tarpaulark build/tarpaulark-checked build/libtarpaulark.so build/stack build/unread
 	$(PYTHON) tests/host.py build/tarpaulark build/tarpaulark-checked
 	bash tests/install.sh
+	$(PYTHON) tests/tables.py --planted $(CC)
+	$(PYTHON) tests/tables.py $(LIBRARY)
 	build/stack
 	build/unread
 	$(PYTHON) tests/differential.py build/libtarpaulark.so

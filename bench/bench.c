@@ -2,13 +2,14 @@
  * bench MIB FOLDER: times judge, store and write on data of MIB MiB against memcpy,
  * zlib's crc32 (with -DWITH_ZLIB), simg2img and img2simg, and prints a table of ratios;
  * then a table of the passes against judge and store, one of comparing two images
- * against memcmp, and one of joining two. Images are judged and stored with a checksum
- * stated and with none. The tools run on files in FOLDER.
+ * against memcmp, one of joining two, and one of the checksum alone. Images are judged and
+ * stored with a checksum stated and with none. The tools run on files in FOLDER.
  */
 #define _GNU_SOURCE
 #include "compare.h"
 #include "join.h"
 #include "passes.h"
+#include "sums.h"
 #include "work.h"
 
 #include <spawn.h>
@@ -154,5 +155,7 @@ int main(int count, char **words)
     put_comparisons(&work, mib);
     putchar('\n');
     put_joinings(&work, mib);
+    putchar('\n');
+    put_sums(&work, mib);
     return 0;
 }

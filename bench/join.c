@@ -3,9 +3,8 @@
 #include <stdio.h>
 #include <string.h>
 
-/* Where an image states its chunks and its checksum, and where the data of one that is one raw chunk begin. */
+/* Where an image states its chunks, and where the data of one that is one raw chunk begin. */
 #define CHUNKS 20
-#define CHECKSUM 24
 #define RAW_DATA 40
 
 #define HEADER 28
@@ -98,18 +97,6 @@ static double join(struct work *work)
     taken = now() - start;
     work->joined_len = answer[TARPAULARK_JOINED];
     return taken;
-}
-
-/* Makes an image state its true checksum, which the image joined with itself states too, or none. */
-static void state_checksum(struct work *work, uint8_t *image, size_t length)
-{
-    uint64_t answer[TARPAULARK_JOIN_ANSWER];
-
-    memset(image + CHECKSUM, 0, 4);
-    if (work->unstated)
-        return;
-    expect(tarpaulark_join(image, length, image, length, work->joined, work->image_room, answer) == 0, "join refused");
-    memcpy(image + CHECKSUM, work->joined + CHECKSUM, 4);
 }
 
 static void store_on(uint8_t *partition, const struct work *work, const uint8_t *image, size_t length)

@@ -10,6 +10,9 @@
 
 #define RUNS 3
 
+/* Where an image states its checksum. */
+#define CHECKSUM 24
+
 /* Of a shorter time too much is the clock's own. */
 #define SHORTEST 20e-6
 
@@ -189,8 +192,20 @@ double make_image(const struct data *data, struct work *work, size_t mib)
     if (data->skips)
         skip_zeros(work);
     if (work->unstated)
-        memset(work->image + 24, 0, 4);
+        memset(work->image + CHECKSUM, 0, 4);
     return seconds;
+}
+
+/* The image joined with itself states its true checksum too. */
+void state_checksum(struct work *work, uint8_t *image, size_t length)
+{
+    uint64_t answer[TARPAULARK_JOIN_ANSWER];
+
+    memset(image + CHECKSUM, 0, 4);
+    if (work->unstated)
+        return;
+    expect(tarpaulark_join(image, length, image, length, work->joined, work->image_room, answer) == 0, "join refused");
+    memcpy(image + CHECKSUM, work->joined + CHECKSUM, 4);
 }
 
 void clear_partition(struct work *work)

@@ -51,6 +51,9 @@ double make_image(const struct data *data, struct work *work, size_t mib);
    checksum. */
 void make_raw_image(struct work *work, uint32_t block, size_t length);
 
+/* Makes an image state its true checksum, or none where the work says so. */
+void state_checksum(struct work *work, uint8_t *image, size_t length);
+
 /* Makes the partition zeros, and whether it holds the flat bytes. */
 void clear_partition(struct work *work);
 void expect_stored(const struct work *work);

@@ -4,5 +4,6 @@ pub mod Linear
 pub mod Nibble
 pub mod Pieces
 pub mod Powers
+pub mod Products
 pub mod Runs
 pub mod Xor

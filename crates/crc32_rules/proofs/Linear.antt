@@ -4,7 +4,7 @@ use mathlib.Core.Path.{_≡_, refl, sym, ap, ap₂, _∙_}
 use Prim.Native.Nat.{ℕ, zero, suc, _+_, _*_, _/_, _%_, _^_, _≤_, _<_}
 use native.Mathlib.Nat.{suc-add, zero-add, zero-mul, one-mul, mul-one, mod-lt, mul-le-mul-right}
 use native.Mathlib.Omega.{arith}
-use lib.Bits.{bitXor, differ, xor-shr, xor-shifted, xor-zero-r, xor-lt, shifted-half, shifted-even}
+use lib.Bits.{bitXor, bitAnd, differ, xor-shr, xor-shifted, xor-zero-r, xor-lt, shifted-half, shifted-even}
 use lib.Pow.{pow-pos, split}
 use Rattle.crc32_rules.specs.Crc.{polynomial, bit, steps}
 use Rattle.crc32_rules.proofs.Xor.{no-two, digit, xor-odd, xor-four}
@@ -17,6 +17,16 @@ differ-times (suc zero) zero hx hy = refl
 differ-times (suc zero) (suc zero) hx hy = refl
 differ-times (suc zero) (suc (suc y)) hx hy = no-two hy
 differ-times (suc (suc x)) y hx hy = no-two hx
+
+masked : (d : ℕ) → d < 2 → bitAnd (d * 0xFFFFFFFF) polynomial ≡ d * polynomial
+masked zero h = refl
+masked (suc zero) h = refl
+masked (suc (suc d)) h = no-two h
+
+-- the polynomial where the lowest bit is 1, by a mask
+pub bit-masked : (s : ℕ) → bitXor (s / 2) (bitAnd (s % 2 * 0xFFFFFFFF) polynomial) ≡ bit s
+unfolding bit
+bit-masked s = ap (bitXor (s / 2)) (masked (s % 2) (digit s))
 
 pub bit-xor : (a b : ℕ) → bit (bitXor a b) ≡ bitXor (bit a) (bit b)
 unfolding bit
@@ -38,9 +48,9 @@ bit-up c n =
     ap₂ (λ (x y : ℕ). bitXor x (y * polynomial)) (shifted-half c n) (shifted-even c n) ∙ xor-zero-r (c * 2 ^ n)
 
 -- a bit times a number is no larger than it
-pub times-lt : (b a n : ℕ) → a < n → b % 2 * a < n
-times-lt b a n h =
-    let small : b % 2 ≤ 1 = omega arith in
+pub times-lt : (d a n : ℕ) → d < 2 → a < n → d * a < n
+times-lt d a n two h =
+    let small : d ≤ 1 = omega arith in
     omega (arith, mul-le-mul-right a small, one-mul a)
 
 pub bit-lt : (s : ℕ) → s < 2 ^ 32 → bit s < 2 ^ 32

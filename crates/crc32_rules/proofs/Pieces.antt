@@ -11,7 +11,7 @@ use lib.Seq.{drop-cons, drop-drop, drop-length, length-take-le}
 use Rattle.crc32_rules.specs.Crc.{steps, byteStep, crcFrom}
 use Rattle.crc32_rules.proofs.Xor.{xor-assoc}
 use Rattle.crc32_rules.proofs.Linear.{steps-xor}
-use Rattle.crc32_rules.proofs.Laws.{crc-append}
+use Rattle.crc32_rules.proofs.Laws.{crc-append, crc-zeros-add}
 
 -- ---- byte after byte
 
@@ -32,6 +32,11 @@ pub lane-done : (s₀ : ℕ) (xs : List ℕ) (s i : ℕ) → i ≡ length xs →
 unfolding crcFrom
 lane-done s₀ xs s i e l =
     sym (l ∙ ap (λ (j : ℕ). crcFrom s (drop j xs)) e ∙ ap (crcFrom s) (drop-length xs))
+
+-- one zero byte more
+pub zeros-more : (s₀ s i x : ℕ) → x ≡ byteStep s 0 → s ≡ crcFrom s₀ (replicate i 0) → x ≡ crcFrom s₀ (replicate (i + 1) 0)
+unfolding crcFrom
+zeros-more s₀ s i x e z = e ∙ ap (λ (y : ℕ). byteStep y 0) z ∙ sym (crc-zeros-add s₀ i 1)
 
 -- ---- part after part
 

@@ -1,31 +1,23 @@
--- Runs of zero bytes and of a word, as so many times a few one-bit steps with something added.
+-- Runs of zero bytes and of a word, as so many one-bit steps.
 -- Assumes nothing.
 use mathlib.Core.Path.{_≡_, refl, sym, ap, _∙_}
 use mathlib.Core.List.{flatten}
 use Prim.Native.Nat.{ℕ, zero, suc, _+_, _*_, _/_, _%_, _^_, _<_}
 use native.Mathlib.Omega.{arith}
 use lib.Arith.{lt-one}
-use lib.Bits.{bitXor, xor-comm, xor-zero-r}
+use lib.Bits.{bitXor, xor-comm, xor-zero-r, xor-self}
 use lib.ListN.{replicate}
 use lib.Pow.{pow-add}
 use Rattle.fields_rules.specs.Number.{bytes}
 use Rattle.crc32_rules.specs.Crc.{steps, byteStep, crcFrom}
-use Rattle.crc32_rules.specs.Power.{repeated, unit, times, rounds}
-use Rattle.crc32_rules.proofs.Xor.{xor-assoc}
+use Rattle.crc32_rules.specs.Power.{repeated, unit, times}
+use Rattle.crc32_rules.proofs.Xor.{xor-assoc, xor-four}
 use Rattle.crc32_rules.proofs.Linear.{steps-xor, steps-add, steps-split}
-use Rattle.crc32_rules.proofs.Powers.{times-steps}
+use Rattle.crc32_rules.proofs.Products.{times-steps}
 use Rattle.crc32_rules.proofs.Laws.{crc-append}
 
--- n zero bytes: n times eight steps
-pub zero-runs : (n s : ℕ) → crcFrom s (replicate n 0) ≡ rounds 8 0 n s
-unfolding crcFrom rounds byteStep
-zero-runs zero s = refl
-zero-runs (suc n) s =
-    zero-runs n (byteStep s 0)
-    ∙ ap (rounds 8 0 n) (ap (steps 8) (xor-zero-r s) ∙ sym (xor-zero-r (steps 8 s)))
-
--- and so eight times as many steps
-zero-steps : (n s : ℕ) → crcFrom s (replicate n 0) ≡ steps (n * 8) s
+-- n zero bytes are eight times as many steps
+pub zero-steps : (n s : ℕ) → crcFrom s (replicate n 0) ≡ steps (n * 8) s
 unfolding crcFrom byteStep steps
 zero-steps zero s = refl
 zero-steps (suc n) s =
@@ -60,11 +52,21 @@ number (suc w) s v h =
     ∙ ap (steps (w * 8)) (low-byte s v)
     ∙ number w (byteStep s (v % 256)) (v / 256) small
 
--- n times the four bytes of a word: n times 32 steps, and the word's own 32 steps are added
-pub word-runs : (n s v : ℕ) → v < 2 ^ 32 → crcFrom s (repeated n (bytes 4 v)) ≡ rounds 32 (steps 32 v) n s
-unfolding crcFrom rounds flatten
-word-runs zero s v h = refl
-word-runs (suc n) s v h =
+-- how far a state is from one that a word brings back goes on over the word as over zero bytes
+apart : (s v held : ℕ) → steps 32 (bitXor held v) ≡ held → bitXor (steps 32 (bitXor s v)) held ≡ steps 32 (bitXor s held)
+apart s v held stays =
+    ap (bitXor (steps 32 (bitXor s v))) (sym stays)
+    ∙ sym (steps-xor 32 (bitXor s v) (bitXor held v))
+    ∙ ap (steps 32) (xor-four s v held v ∙ ap (bitXor (bitXor s held)) (xor-self v) ∙ xor-zero-r (bitXor s held))
+
+-- n times the four bytes of a word
+pub word-steps : (n s v held : ℕ) → v < 2 ^ 32 → steps 32 (bitXor held v) ≡ held → crcFrom s (repeated n (bytes 4 v)) ≡ bitXor (steps (n * 32) (bitXor s held)) held
+unfolding crcFrom steps flatten
+word-steps zero s v held h stays = sym (xor-assoc s held held ∙ ap (bitXor s) (xor-self held) ∙ xor-zero-r s)
+word-steps (suc n) s v held h stays =
+    let e : suc n * 32 ≡ 32 + n * 32 = omega arith in
     crc-append s (bytes 4 v) (repeated n (bytes 4 v))
-    ∙ word-runs n (crcFrom s (bytes 4 v)) v h
-    ∙ ap (rounds 32 (steps 32 v) n) (sym (number 4 s v h) ∙ steps-xor 32 s v)
+    ∙ word-steps n (crcFrom s (bytes 4 v)) v held h stays
+    ∙ ap (λ (x : ℕ). bitXor (steps (n * 32) x) held)
+    (ap (λ (x : ℕ). bitXor x held) (sym (number 4 s v h)) ∙ apart s v held stays)
+    ∙ ap (λ (x : ℕ). bitXor x held) (sym (ap (λ (k : ℕ). steps k (bitXor s held)) e ∙ steps-add 32 (n * 32) (bitXor s held)))

@@ -1,100 +1,98 @@
 // CRC-32 over runs: n zero bytes, or n times a word, from a state, in O(log n) steps.
 //
-// n steps of the state are its product by the n-th power of x, and the powers come by squaring.
+// n steps of the state are its product by the n-th power of x, and the powers come by squaring. A word brings one
+// state back to itself; how far a state is from that one goes on over the word as over four zero bytes.
 ghost use mathlib.Core.Path.{_≡_};
-ghost use Prim.Native.Nat.{ℕ, _*_, _%_};
+ghost use Prim.Native.Nat.{ℕ, _*_, _/_, _%_, _^_};
 ghost use lib.Bits.{bitXor};
 ghost use lib.ListN.{replicate};
 ghost use Rattle.crc32_rules.specs.Crc.{bit, steps, crcFrom};
 ghost use Rattle.fields_rules.specs.Number.{bytes};
-ghost use Rattle.crc32_rules.specs.Power.{unit, times, rounds, repeated};
+ghost use Rattle.crc32_rules.specs.Power.{unit, times, repeated, back};
 
 // x to the power 8 and to the power 32, as reflected polynomials: a byte's steps, a word's steps.
 const BYTE: u32 = 0x00800000;
 
 const WORD: u32 = 0xEDB88320;
 
-// One bit a step.
+// A word times this is the state that the word brings back.
+const BACK: u32 = 0x39A38F74;
+
+// One bit a step. The mask is all ones where the lowest bit is 1, so that nothing branches on it.
 fn one(state: u32) -> u32
     ensures { λ r. ⌜ r ≡ bit state ⌝ }
 {
-    (state / 2) ^ (state % 2 * 0xEDB88320)
+    (state / 2) ^ (state % 2 * 0xFFFFFFFF & 0xEDB88320)
 }
 
-// `a` where the lowest bit of `b` is 1, and 0 elsewhere.
+// `a` where the highest bit of `b` is 1, and 0 elsewhere.
 fn term(b: u32, a: u32) -> u32
-    ensures { λ r. ⌜ r ≡ b % 2 * a ⌝ }
+    ensures { λ r. ⌜ r ≡ b / 2 ^ 31 * a ⌝ }
 {
-    b % 2 * a
+    b / 0x80000000 * a
 }
 
-// The product of two reflected polynomials modulo the polynomial.
+// The bits below the highest, one place up.
+fn up(b: u32) -> u32
+    ensures { λ r. ⌜ r ≡ b % 2 ^ 31 * 2 ⌝ }
+{
+    b % 0x80000000 * 2
+}
+
+// The product of two reflected polynomials modulo the polynomial, two bits of `b` a turn.
 fn product(b: u32, a: u32) -> u32
     ensures { λ r. ⌜ r ≡ times b a ⌝ }
 {
     let mut acc = 0;
     let mut left = b;
-    for i in 0u32..32 {
-        acc = term(left, a) ^ one(acc);
-        left = left / 2;
+    let mut power = a;
+    for i in 0u32..16 {
+        let next = one(power);
+        acc = acc ^ term(left, power) ^ term(up(left), next);
+        power = one(next);
+        left = up(up(left));
     }
     acc
 }
 
-// What two rounds add where one adds `c`; nothing is worked out where that is 0.
-fn added(c: u32, power: u32) -> u32
-    ensures { λ r. ⌜ r ≡ bitXor (times c power) c ⌝ }
+// n times: how far the state is from the one that the word brings back is multiplied by `power`. Where that is x to
+// the power e, these are n times e one-bit steps.
+fn run(state: u32, word: u32, power: u32, n: u64) -> u32
+    ensures { λ r. ⌜ ((e : ℕ) → power ≡ steps e unit → r ≡ bitXor (steps (n * e) (bitXor state (times word back))) (times word back)) ⌝ }
 {
-    if c == 0 {
-        return 0;
-    }
-    product(c, power) ^ c
-}
-
-// n times: the state is multiplied by `power`, and `add` is added. Where `power` is x to the power
-// e, that is e one-bit steps.
-fn run(state: u32, power: u32, add: u32, n: u64) -> u32
-    ensures { λ r. ⌜ ((e : ℕ) → power ≡ steps e unit → r ≡ rounds e add n state) ⌝ }
-{
-    let mut s = state;
+    let held = product(word, BACK);
+    let mut s = state ^ held;
     let mut p = power;
-    let mut c = add;
     let mut m = n;
     while m > 0 {
         if m % 2 == 1 {
-            s = product(s, p) ^ c;
+            s = product(s, p);
         }
-        c = added(c, p);
-        p = product(p, p);
         m = m / 2;
+        if m > 0 {
+            p = product(p, p);
+        }
     }
-    s
+    s ^ held
 }
 
-// The state after n zero bytes.
+// The state after n zero bytes. The word 0 brings back the state 0.
 pub fn update_zeros(state: u32, n: u64) -> u32
     ensures { λ r. ⌜ r ≡ crcFrom state (replicate n 0) ⌝ }
 {
-    run(state, BYTE, 0, n)
-}
-
-// What n zero bytes make of one: x to the power 8 n.
-pub fn zeros_power(n: u64) -> u32
-    ensures { λ r. ⌜ r ≡ crcFrom unit (replicate n 0) ⌝ }
-{
-    update_zeros(0x80000000, n)
-}
-
-// The state after as many zero bytes as a power stands for.
-pub fn carry(state: u32, power: u32) -> u32
-    ensures { λ r. ⌜ ((n : ℕ) → power ≡ crcFrom unit (replicate n 0) → r ≡ crcFrom state (replicate n 0)) ⌝ }
-{
-    product(state, power)
+    run(state, 0, BYTE, n)
 }
 
 // The state after n times the four bytes of a word, low byte first.
 pub fn update_word(state: u32, word: u32, n: u64) -> u32
     ensures { λ r. ⌜ r ≡ crcFrom state (repeated n (bytes 4 word)) ⌝ }
 {
-    run(state, WORD, product(word, WORD), n)
+    run(state, word, WORD, n)
+}
+
+// The state after as many zero bytes as a power stands for: what they make of one.
+pub fn carry(state: u32, power: u32) -> u32
+    ensures { λ r. ⌜ ((n : ℕ) → power ≡ crcFrom unit (replicate n 0) → r ≡ crcFrom state (replicate n 0)) ⌝ }
+{
+    product(state, power)
 }

@@ -10,13 +10,10 @@ use Rattle.crc32_lanes.proofs.serial.Statement.{statement}
 use Rattle.crc32_lanes.proofs.serial.Tie as tie
 
 abbrev Inv-loop : tie.InvT-loop
-Inv-loop state src table s₀ i₀ i-end s i = (i ≤ length src) × (i-end ≡ length src) × Lane state src s i
+Inv-loop table state src s₀ i₀ i-end s i = (i ≤ length src) × (i-end ≡ length src) × Lane state src s i
 
 abbrev μ-loop : tie.MeasureT-loop
-μ-loop state src table s₀ i₀ i-end s i = i-end - i
-
-half-bytes-requires : tie.Need-half-bytes-requires Inv-loop μ-loop
-half-bytes-requires c κs = search needs
+μ-loop table state src s₀ i₀ i-end s i = i-end - i
 
 loop-holds : tie.Need-loop-holds Inv-loop μ-loop
 loop-holds c = (omega arith, refl, lane-start _ _)
@@ -25,7 +22,7 @@ shared-slice-read-byte : tie.Need-shared-slice-read-byte Inv-loop μ-loop
 shared-slice-read-byte c = search needs
 
 byte-requires : tie.Need-byte-requires Inv-loop μ-loop
-byte-requires c κs = c .before .before .before .before .half-bytes .ensures
+byte-requires c κs = c .before .before .before .before .pre
 
 add-i : tie.Need-add-i Inv-loop μ-loop
 add-i c = search needs
@@ -35,7 +32,7 @@ loop-less c = search needs
 
 loop-again : tie.Need-loop-again Inv-loop μ-loop
 loop-again c =
-    let at = c .before .before .before .before .loop in
+    let at = c .before .before .before .loop in
     (omega arith, refl, lane-more _ _ _ _ (c .byte .result) (omega arith) (c .byte .ensures) (at .inv .2))
 
 returns : tie.Need-returns Inv-loop μ-loop
@@ -49,7 +46,6 @@ serial-spec =
     (tie.spec
     Inv-loop
     μ-loop
-    half-bytes-requires
     loop-holds
     shared-slice-read-byte
     byte-requires

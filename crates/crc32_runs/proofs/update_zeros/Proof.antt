@@ -1,9 +1,12 @@
 -- `crc32_runs::update_zeros` meets its contract: a zero byte is eight one-bit steps.
 -- Assumes nothing.
-use mathlib.Core.Path.{refl, sym, _∙_}
+use mathlib.Core.Path.{refl, sym, ap, _∙_}
+use Prim.Native.Nat.{ℕ, _*_}
+use lib.Bits.{bitXor, xor-zero-r}
 use borrow.Author.Needs.{needs}
 use Rattle.crc32_rules.specs.Crc.{bit, steps}
-use Rattle.crc32_rules.proofs.Runs.{zero-runs}
+use Rattle.crc32_rules.proofs.Products.{zero-back}
+use Rattle.crc32_rules.proofs.Runs.{zero-steps}
 use Rattle.crc32_runs.proofs.update_zeros.Statement.{statement}
 use Rattle.crc32_runs.proofs.update_zeros.Tie as tie
 
@@ -12,7 +15,13 @@ run-requires c κs = search needs
 
 returns : tie.Need-returns
 unfolding steps bit
-returns c = c .run .ensures 8 refl ∙ sym (zero-runs (c .before .args .n) (c .before .args .state))
+returns c =
+    let a = c .before .args in
+    c .run .ensures 8 refl
+    ∙ ap (λ (x : ℕ). bitXor (steps (a .n * 8) (bitXor (a .state) x)) x) zero-back
+    ∙ xor-zero-r (steps (a .n * 8) (bitXor (a .state) 0))
+    ∙ ap (steps (a .n * 8)) (xor-zero-r (a .state))
+    ∙ sym (zero-steps (a .n) (a .state))
 
 pub update-zeros-spec : {M : Type 1} → statement M
 update-zeros-spec = tie.close (tie.spec run-requires returns)
