@@ -1,7 +1,8 @@
 # make: the host tool, over the proved library. make demo: an update with power cuts, shown.
 # make test: the tool and the library against examples and the reference.
 # make install: tool, library, header, man page and pkg-config file, below PREFIX (and DESTDIR).
-# make peers: the same images through Debian's tools. make bench: speed, as ratios: whole, in pieces, compared, joined.
+# make peers: the same images through Debian's tools. make bench: speed, as ratios: whole, in pieces, compared, joined,
+# and the checksum alone; make size: how many bytes the library takes, also built for size.
 ifeq ($(origin CC),default)
 CC = gcc
 endif
@@ -27,7 +28,7 @@ CRATES := $(shell tac crates.txt | awk -F: 'BEGIN { needed["tarpaulark"] = 1 } \
 	needed[$$1] { print "crates/" $$1; n = split($$2, on, " "); for (i = 1; i <= n; i++) needed[on[i]] = 1 }')
 PROVED := crates.txt $(shell find $(CRATES) \( -name '*.rt' -o -name '*.antt' \) -not -path '*/must-fail/*')
 
-.PHONY: all demo test peers bench install clean
+.PHONY: all demo test peers bench size install clean
 .DELETE_ON_ERROR:
 all: build/tarpaulark
 
@@ -75,7 +76,7 @@ demo: build/tarpaulark
 test: build/tarpaulark build/tarpaulark-checked build/libtarpaulark.so build/stack build/unread
 	$(PYTHON) tests/host.py build/tarpaulark build/tarpaulark-checked
 	bash tests/install.sh
-	$(PYTHON) tests/tables.py --planted $(CC)
+	$(PYTHON) tests/tables.py --planted '$(CC)'
 	$(PYTHON) tests/tables.py $(LIBRARY)
 	build/stack
 	build/unread
@@ -86,9 +87,12 @@ peers: build/tarpaulark
 	bash tests/peers.sh
 
 # Tables of ratios: to a plain copy, to zlib's checksum and to Debian's tools; of the passes to the whole form; of
-# comparing to memcmp; of joining to a plain copy and to zlib's checksum.
+# comparing to memcmp; of joining to a plain copy and to zlib's checksum; of the checksum alone to zlib's.
 bench: $(LIBRARY)
 	bash bench/run
+
+size: $(LIBRARY)
+	RT='$(RT)' CC='$(CC)' $(PYTHON) bench/size.py
 
 FILLED = sed -e 's|@VERSION@|$(VERSION)|' -e 's|@LIBDIR@|$(LIBDIR)|' -e 's|@INCLUDEDIR@|$(INCLUDEDIR)|'
 install: build/tarpaulark

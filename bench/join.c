@@ -3,20 +3,10 @@
 #include <stdio.h>
 #include <string.h>
 
-/* Where an image states its chunks, and where the data of one that is one raw chunk begin. */
-#define CHUNKS 20
-#define RAW_DATA 40
+/* Where the data of an image that is one raw chunk begin. */
+#define RAW_DATA (HEADER + CHUNK_HEADER)
 
-#define HEADER 28
-#define CHUNK_HEADER 12
 #define FILL_WORD 0xA5A5A5A5u
-
-/* The block size, and what part of the data are joined in smaller blocks: the image is up to four times as long. */
-#define BLOCK 4096
-#define PART 16
-
-/* Of so many runs a yardstick is the least. */
-#define YARDSTICK_RUNS 9
 
 /* The images that name the most bytes that can be joined, and how often they are joined for one time. */
 #define MOST_BLOCKS 32768
@@ -26,15 +16,6 @@
 static size_t blocks_of(const struct work *work)
 {
     return work->flat_len / work->block;
-}
-
-/* Makes a chunk header; the place after it. */
-static uint8_t *put_chunk(uint8_t *at, uint32_t type, uint32_t blocks, uint32_t size)
-{
-    const uint32_t fields[] = {type, blocks, size};
-
-    memcpy(at, fields, sizeof fields);
-    return at + sizeof fields;
 }
 
 static void make_raw(struct work *work)
@@ -54,8 +35,8 @@ static void make_half(struct work *work)
     memcpy(work->other, work->image, HEADER);
     memcpy(work->other + CHUNKS, &chunks, sizeof chunks);
     for (size_t i = 0; i < chunks; i += 2) {
-        at = put_chunk(at, 0xCAC3, 1, CHUNK_HEADER);
-        at = put_chunk(at, 0xCAC1, 1, CHUNK_HEADER + work->block);
+        at = put_chunk_header(at, 0xCAC3, 1, CHUNK_HEADER);
+        at = put_chunk_header(at, 0xCAC1, 1, CHUNK_HEADER + work->block);
         memcpy(at, work->image + RAW_DATA + i * work->block, work->block);
         at += work->block;
     }
@@ -70,7 +51,7 @@ static void make_fill(struct work *work)
 static void make_kept(struct work *work)
 {
     make_fill(work);
-    work->other_len = (size_t)(put_chunk(work->other + HEADER, 0xCAC3, (uint32_t)blocks_of(work), CHUNK_HEADER)
+    work->other_len = (size_t)(put_chunk_header(work->other + HEADER, 0xCAC3, (uint32_t)blocks_of(work), CHUNK_HEADER)
                                - work->other);
 }
 
@@ -152,8 +133,8 @@ static struct yardsticks time_yardsticks(struct work *work, size_t length)
     struct yardsticks than;
 
     make_raw_image(work, BLOCK, length);
-    than.copy = least_of(YARDSTICK_RUNS, copy, work);
-    than.checksum = least_of(YARDSTICK_RUNS, checksum, work);
+    than.copy = least_of(MORE_RUNS, copy, work);
+    than.checksum = least_of(MORE_RUNS, checksum, work);
     return than;
 }
 

@@ -1,8 +1,11 @@
-"""Prints the table of sizes of docs/PERFORMANCE.md: python3 bench/size.py
+"""Prints the table of sizes of docs/PERFORMANCE.md: make size, or python3 bench/size.py
 
 The kit compiles a library at -O3, and takes no other flag.  So a kit is put together here that is the installed one
 but for its compiler, which keeps what it is given to compile; that is then compiled again with the compiler's own
-flags for size.
+flags for size.  The library in target/ is built anew on the way, and is the same.
+
+checksum is the code of the checksum's own functions; tables is how often its table stands in the object; judge and
+store is what these two functions take alone, code and data, by a linker that leaves out the rest.
 """
 
 import os
@@ -20,7 +23,8 @@ sys.path.insert(0, os.path.join(TOP, "tests"))
 import tables
 
 LIBRARY = "tarpaulark"
-LEVELS = ("-O3", "-O2", "-Os", "-Oz")
+BUILT = "-O3"
+LEVELS = (BUILT, "-O2", "-Os", "-Oz")
 # What a loader that only judges and stores links.
 STORING = ("tarpaulark_judge", "tarpaulark_store")
 KEEPER = """#!/bin/sh
@@ -65,7 +69,10 @@ def keep_module(folder: str) -> List[str]:
     if built.returncode:
         sys.exit(f"size: the library could not be built:\n{built.stdout[-2000:]}")
     with open(os.path.join(folder, "words")) as file:
-        return [real] + file.read().splitlines()
+        words = file.read().splitlines()
+    if BUILT not in words:
+        sys.exit(f"size: the kit's compiler is not called with {BUILT}: {words}")
+    return [real] + words
 
 
 def compile_again(folder: str, words: List[str], level: str) -> str:
@@ -73,7 +80,7 @@ def compile_again(folder: str, words: List[str], level: str) -> str:
     made = os.path.join(folder, f"module{level}.o")
     again = [os.path.join(folder, "module.bc") if word.endswith(".bc") else word for word in words]
     again[again.index("-o") + 1] = made
-    again[again.index("-O3")] = level
+    again[again.index(BUILT)] = level
     subprocess.run(again, check=True)
     return made
 
@@ -87,27 +94,30 @@ def only(folder: str, made: str, functions: Tuple[str, ...]) -> str:
     return part
 
 
-def bytes_of(made: str, beginning: str = "") -> Tuple[int, int]:
-    """Code and data of an object, or of the functions whose names begin so."""
-    with open(made, "rb") as file:
-        sections = list(tables.sections_of(file.read()))
-    code = [len(s.content) for s in sections if s.flags & tables.RUN and s.name.startswith(".text." + beginning)]
-    data = [len(s.content) for s in sections if not s.flags & tables.RUN]
-    return sum(code), sum(data)
+def bytes_of(sections: List[tables.Section], beginning: str = "") -> int:
+    """How long the sections are whose names begin so."""
+    return sum(section.length for section in sections if section.name.startswith(beginning))
+
+
+def put_row(folder: str, made: str, level: str) -> None:
+    """A row of the table, and what is wrong with the tables of the checksum in the object."""
+    sections = tables.sections_in(made)
+    code = [section for section in sections if section.is_code()]
+    data = [section for section in sections if not section.is_code()]
+    stored = bytes_of(tables.sections_in(only(folder, made, STORING)))
+    copies = len(tables.places_of(tables.ROWS[0], sections))
+    print(f"{level:<6} {bytes_of(code):8} {bytes_of(data):8} {bytes_of(code, '.text.crc32'):9} {copies:7} {stored:16}")
+    for fault in tables.faults_of(sections):
+        print(f"       {fault}")
 
 
 def main() -> int:
     """The command line."""
-    print(f"{'build':<6} {'code':>8} {'data':>8} {'checksum':>9} {'tables':>7} {'of bytes':>9} {'judge and store':>16}")
+    print(f"{'build':<6} {'code':>8} {'data':>8} {'checksum':>9} {'tables':>7} {'judge and store':>16}")
     with tempfile.TemporaryDirectory() as folder:
         words = keep_module(folder)
         for level in LEVELS:
-            made = compile_again(folder, words, level)
-            code, data = bytes_of(made)
-            checksum = bytes_of(made, "crc32")[0]
-            stands = tables.look_at(made)[0]
-            part = sum(bytes_of(only(folder, made, STORING)))
-            print(f"{level:<6} {code:8} {data:8} {checksum:9} {len(stands):7} {64 * len(stands):9} {part:16}")
+            put_row(folder, compile_again(folder, words, level), level)
     return 0
 
 

@@ -3,19 +3,6 @@
 #include <stdio.h>
 #include <string.h>
 
-#define HEADER 28
-#define CHUNK_HEADER 12
-#define CHUNKS 20
-
-/* Data in short chunks are this part of all: the image is up to four times as long. */
-#define PART 16
-
-/* The block size of data in one chunk. */
-#define BLOCK 4096
-
-/* Of so many runs each time is the least: the shortest are told by a small difference. */
-#define RUNS 9
-
 /* Each block of the flat bytes one word, and no two that follow each other the same. */
 static void make_words(struct work *work)
 {
@@ -30,14 +17,13 @@ static void make_words(struct work *work)
 static void make_chunks(struct work *work, uint32_t type, uint32_t bytes)
 {
     const uint32_t chunks = (uint32_t)(work->flat_len / work->block);
-    const uint32_t fields[] = {type, 1, CHUNK_HEADER + bytes};
     uint8_t *at = work->image + HEADER;
 
     memcpy(work->image + CHUNKS, &chunks, sizeof chunks);
     for (size_t i = 0; i < chunks; i++) {
-        memcpy(at, fields, sizeof fields);
-        memcpy(at + sizeof fields, work->flat + i * work->block, bytes);
-        at += fields[2];
+        at = put_chunk_header(at, type, 1, CHUNK_HEADER + bytes);
+        memcpy(at, work->flat + i * work->block, bytes);
+        at += bytes;
     }
     work->image_len = (size_t)(at - work->image);
 }
@@ -66,29 +52,30 @@ static const struct row {
     {"fill", 4096, make_fill},
 };
 
-/* The time of the checksum alone over the image's data, which go in so many pieces. */
+/* The time of the checksum over the image's data, which go in so many pieces, and of the walk that it needs. */
 static void put_row(const char *name, struct work *work, size_t pieces)
 {
     double none, stated, sum;
 
     work->unstated = 1;
     state_checksum(work, work->image, work->image_len);
-    none = least_of(RUNS, judge, work);
+    none = least_of(MORE_RUNS, judge, work);
     work->unstated = 0;
     state_checksum(work, work->image, work->image_len);
-    stated = least_of(RUNS, judge, work);
+    stated = least_of(MORE_RUNS, judge, work);
     sum = stated - none;
     printf("%-17s  %9zu %9zu %12.1f %12.1f", name, work->flat_len / pieces, pieces, none * 1e9 / (double)pieces,
            stated * 1e9 / (double)pieces);
     put_ratio((double)work->flat_len / 1e9, sum);
-    put_ratio(sum, best(checksum, work));
+    put_ratio(sum, least_of(MORE_RUNS, checksum, work));
     putchar('\n');
     fflush(stdout);
 }
 
 void put_sums(struct work *work, size_t mib)
 {
-    printf("%-17s  %9s %9s %12s %12s %9s %9s\n", "data", "bytes", "chunks", "ns, none", "ns, stated", "GB/s", "/ crc32");
+    printf("%-17s  %9s %9s %12s %12s %9s %9s\n", "data", "bytes", "chunks", "ns, none", "ns, stated", "GB/s",
+           "/ crc32");
     for (size_t i = 0; i < sizeof rows / sizeof rows[0]; i++) {
         rows[i].make(work, rows[i].block, (mib << 20) / PART);
         put_row(rows[i].name, work, work->flat_len / work->block);

@@ -10,9 +10,6 @@
 
 #define RUNS 3
 
-/* Where an image states its checksum. */
-#define CHECKSUM 24
-
 /* Of a shorter time too much is the clock's own. */
 #define SHORTEST 20e-6
 
@@ -98,6 +95,14 @@ double checksum(struct work *work)
     (void)work;
     return ABSENT;
 #endif
+}
+
+uint8_t *put_chunk_header(uint8_t *at, uint32_t type, uint32_t blocks, uint32_t size)
+{
+    const uint32_t fields[] = {type, blocks, size};
+
+    memcpy(at, fields, sizeof fields);
+    return at + sizeof fields;
 }
 
 /* Makes an image of one chunk, whose data are given, that states no checksum; its length. */

@@ -8,6 +8,19 @@
 
 #define ABSENT (-1.0)
 
+/* An image: how long its header and that of a chunk are, and where it states its chunks and its checksum. */
+#define HEADER 28
+#define CHUNK_HEADER 12
+#define CHUNKS 20
+#define CHECKSUM 24
+
+/* The block size, and what part of the data are taken in smaller blocks: the image is up to four times as long. */
+#define BLOCK 4096
+#define PART 16
+
+/* Of so many runs a time is the least where small differences count. */
+#define MORE_RUNS 9
+
 struct work {
     uint8_t *flat, *image, *partition;
     uint8_t *other; /* what the image is compared or joined with */
@@ -64,6 +77,9 @@ double store(struct work *work);
 /* The yardsticks, over all the flat bytes: memcpy, and zlib's crc32 where it is to be had. */
 double copy(struct work *work);
 double checksum(struct work *work);
+
+/* Makes a chunk header; the place after it. */
+uint8_t *put_chunk_header(uint8_t *at, uint32_t type, uint32_t blocks, uint32_t size);
 
 /* Makes an image of one fill chunk that states no checksum; its length. */
 size_t put_fill(uint8_t *image, uint32_t block, uint32_t blocks, uint32_t word);

@@ -15,6 +15,9 @@ ghost use Rattle.crc32_rules.specs.Table.{HalfBytes};
 use step::byte;
 use step::half_bytes;
 
+// One, as a reflected polynomial: the highest bit.
+const ONE: u32 = 0x80000000;
+
 // From this length on, four lanes and the joins cost less than one lane.
 const LONG: usize = 32;
 
@@ -39,7 +42,8 @@ fn serial(table: &[u32; 16], state: u32, src: &[u8]) -> u32
     s
 }
 
-// The four slices side by side. The first lane goes on from the state, each of the others begins at 0.
+// The four slices side by side. The first lane goes on from the state, each of the others begins at 0; the fifth goes
+// over zero bytes, from one.
 fn together(
     table: &[u32; 16],
     state: u32,
@@ -62,7 +66,7 @@ fn together(
     let mut b = 0;
     let mut c = 0;
     let mut d = 0;
-    let mut z = 0x80000000;
+    let mut z = ONE;
     for i in 0..first.len() {
         a = byte(table, a, first[i]);
         b = byte(table, b, second[i]);

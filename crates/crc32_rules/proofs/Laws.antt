@@ -39,18 +39,14 @@ repeated-add (suc n) m xs =
     ∙ ap (λ (r : List ℕ). xs ++ r) (repeated-add n m xs)
     ∙ sym (append-assoc xs (repeated n xs) (repeated m xs))
 
--- a run of n + m is a run of n, then one of m
-pub crc-repeated-add : (s n m : ℕ) (xs : List ℕ) → crcFrom s (repeated (n + m) xs) ≡ crcFrom (crcFrom s (repeated n xs)) (repeated m xs)
-crc-repeated-add s n m xs = ap (crcFrom s) (repeated-add n m xs) ∙ crc-append s (repeated n xs) (repeated m xs)
-
--- the same of zero bytes
+-- a run of n + m zero bytes is a run of n, then one of m
 pub crc-zeros-add : (s n m : ℕ) → crcFrom s (replicate (n + m) 0) ≡ crcFrom (crcFrom s (replicate n 0)) (replicate m 0)
 crc-zeros-add s n m = ap (crcFrom s) (sym (replicate-append-replicate n m 0)) ∙ crc-append s (replicate n 0) (replicate m 0)
 
 -- ---- 32 bits
 
 -- a state stays within 32 bits
-pub crc-fits : (s : ℕ) (xs : List ℕ) → s < 2 ^ 32 → ((k : ℕ) → getD xs k 0 < 256) → crcFrom s xs < 2 ^ 32
+crc-fits : (s : ℕ) (xs : List ℕ) → s < 2 ^ 32 → ((k : ℕ) → getD xs k 0 < 256) → crcFrom s xs < 2 ^ 32
 unfolding crcFrom byteStep
 crc-fits s [] h b = h
 crc-fits s (x ∷ xs) h b =

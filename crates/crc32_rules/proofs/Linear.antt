@@ -23,7 +23,7 @@ masked zero h = refl
 masked (suc zero) h = refl
 masked (suc (suc d)) h = no-two h
 
--- the polynomial where the lowest bit is 1, by a mask
+-- the step by a mask: all ones where the lowest bit is 1
 pub bit-masked : (s : ℕ) → bitXor (s / 2) (bitAnd (s % 2 * 0xFFFFFFFF) polynomial) ≡ bit s
 unfolding bit
 bit-masked s = ap (bitXor (s / 2)) (masked (s % 2) (digit s))
@@ -53,7 +53,7 @@ times-lt d a n two h =
     let small : d ≤ 1 = omega arith in
     omega (arith, mul-le-mul-right a small, one-mul a)
 
-pub bit-lt : (s : ℕ) → s < 2 ^ 32 → bit s < 2 ^ 32
+bit-lt : (s : ℕ) → s < 2 ^ 32 → bit s < 2 ^ 32
 unfolding bit
 bit-lt s h = xor-lt 32 (s / 2) (s % 2 * polynomial) (omega arith) (omega arith)
 

@@ -18,6 +18,11 @@ halved e m =
     ∙ add-mul (m % 2) (m / 2 * 2) e
     ∙ ap (λ (x : ℕ). m % 2 * e + x) (mul-assoc (m / 2) 2 e ∙ ap (λ (x : ℕ). m / 2 * x) both)
 
+-- no times any steps are none
+no-steps : (e m s : ℕ) → m ≡ 0 → steps (m * e) s ≡ s
+unfolding steps
+no-steps e m s h = ap (λ (x : ℕ). steps (x * e) s) h ∙ ap (λ (x : ℕ). steps x s) (zero-mul e)
+
 -- p is a power of x, and what is left gives the whole
 pub record Now (whole state p m : ℕ) : Type 0 where
   pub exponent : ℕ
@@ -36,11 +41,7 @@ module _ {whole state p m : ℕ} (now : Now whole state p m) where
   Gone next = (next < 2 ^ 32) × (next ≡ steps (m % 2 * now .exponent) state)
 
   pub even-gone : m % 2 ≡ 0 → Gone state
-  unfolding steps
-  even-gone h = (
-    now .state-fits,
-    sym (ap (λ (x : ℕ). steps (x * now .exponent) state) h ∙ ap (λ (x : ℕ). steps x state) (zero-mul (now .exponent))),
-  )
+  even-gone h = (now .state-fits, sym (no-steps (now .exponent) (m % 2) state h))
 
   pub odd-gone : (t : ℕ) → t < 2 ^ 32 → t ≡ times state p → m % 2 ≡ 1 → Gone t
   odd-gone t ht et h = (
@@ -74,15 +75,11 @@ module _ {whole state p m : ℕ} (now : Now whole state p m) where
     power = now .power;
     left =
         left-after next gone
-        ∙ ap (λ (x : ℕ). steps x next) (no-times (now .exponent + now .exponent) ∙ sym (no-times (now .exponent)));
+        ∙ no-steps (now .exponent + now .exponent) (m / 2) next none
+        ∙ sym (no-steps (now .exponent) (m / 2) next none);
     state-fits = gone .0;
     power-fits = now .power-fits;
   }
-    where
-      no-times : (k : ℕ) → m / 2 * k ≡ 0
-      no-times k = ap (λ (x : ℕ). x * k) none ∙ zero-mul k
 
 pub no-turn : {whole state p m : ℕ} → Now whole state p m → m ≡ 0 → state ≡ whole
-unfolding steps
-no-turn {state} now e =
-    sym (now .left ∙ ap (λ (x : ℕ). steps (x * now .exponent) state) e ∙ ap (λ (x : ℕ). steps x state) (zero-mul (now .exponent)))
+no-turn {state} {m} now e = sym (now .left ∙ no-steps (now .exponent) m state e)

@@ -10,10 +10,10 @@ use lib.ListN.{replicate}
 use lib.Pow.{pow-add}
 use Rattle.fields_rules.specs.Number.{bytes}
 use Rattle.crc32_rules.specs.Crc.{steps, byteStep, crcFrom}
-use Rattle.crc32_rules.specs.Power.{repeated, unit, times}
+use Rattle.crc32_rules.specs.Power.{repeated, unit, times, fixedPoint}
 use Rattle.crc32_rules.proofs.Xor.{xor-assoc, xor-four}
 use Rattle.crc32_rules.proofs.Linear.{steps-xor, steps-add, steps-split}
-use Rattle.crc32_rules.proofs.Products.{times-steps}
+use Rattle.crc32_rules.proofs.Products.{times-steps, word-fixed}
 use Rattle.crc32_rules.proofs.Laws.{crc-append}
 
 -- n zero bytes are eight times as many steps
@@ -40,7 +40,7 @@ low-byte s v =
     ∙ ap (λ (x : ℕ). bitXor x (v / 256)) (sym (steps-xor 8 s (v % 256)))
 
 -- a number of w bytes goes in at once
-pub number : (w s v : ℕ) → v < 2 ^ (w * 8) → steps (w * 8) (bitXor s v) ≡ crcFrom s (bytes w v)
+number : (w s v : ℕ) → v < 2 ^ (w * 8) → steps (w * 8) (bitXor s v) ≡ crcFrom s (bytes w v)
 unfolding crcFrom steps
 number zero s v h = ap (bitXor s) (lt-one h) ∙ xor-zero-r s
 number (suc w) s v h =
@@ -52,21 +52,22 @@ number (suc w) s v h =
     ∙ ap (steps (w * 8)) (low-byte s v)
     ∙ number w (byteStep s (v % 256)) (v / 256) small
 
--- how far a state is from one that a word brings back goes on over the word as over zero bytes
-apart : (s v held : ℕ) → steps 32 (bitXor held v) ≡ held → bitXor (steps 32 (bitXor s v)) held ≡ steps 32 (bitXor s held)
-apart s v held stays =
+-- over a word, the difference of a state from the word's fixed point goes on as over zero bytes
+apart : (s v fixed : ℕ) → steps 32 (bitXor fixed v) ≡ fixed → bitXor (steps 32 (bitXor s v)) fixed ≡ steps 32 (bitXor s fixed)
+apart s v fixed stays =
     ap (bitXor (steps 32 (bitXor s v))) (sym stays)
-    ∙ sym (steps-xor 32 (bitXor s v) (bitXor held v))
-    ∙ ap (steps 32) (xor-four s v held v ∙ ap (bitXor (bitXor s held)) (xor-self v) ∙ xor-zero-r (bitXor s held))
+    ∙ sym (steps-xor 32 (bitXor s v) (bitXor fixed v))
+    ∙ ap (steps 32) (xor-four s v fixed v ∙ ap (bitXor (bitXor s fixed)) (xor-self v) ∙ xor-zero-r (bitXor s fixed))
 
 -- n times the four bytes of a word
-pub word-steps : (n s v held : ℕ) → v < 2 ^ 32 → steps 32 (bitXor held v) ≡ held → crcFrom s (repeated n (bytes 4 v)) ≡ bitXor (steps (n * 32) (bitXor s held)) held
+pub word-steps : (n s v : ℕ) → v < 2 ^ 32 → crcFrom s (repeated n (bytes 4 v)) ≡ bitXor (steps (n * 32) (bitXor s (fixedPoint v))) (fixedPoint v)
 unfolding crcFrom steps flatten
-word-steps zero s v held h stays = sym (xor-assoc s held held ∙ ap (bitXor s) (xor-self held) ∙ xor-zero-r s)
-word-steps (suc n) s v held h stays =
+word-steps zero s v h = sym (xor-assoc s (fixedPoint v) (fixedPoint v) ∙ ap (bitXor s) (xor-self (fixedPoint v)) ∙ xor-zero-r s)
+word-steps (suc n) s v h =
     let e : suc n * 32 ≡ 32 + n * 32 = omega arith in
+    let fixed = fixedPoint v in
     crc-append s (bytes 4 v) (repeated n (bytes 4 v))
-    ∙ word-steps n (crcFrom s (bytes 4 v)) v held h stays
-    ∙ ap (λ (x : ℕ). bitXor (steps (n * 32) x) held)
-    (ap (λ (x : ℕ). bitXor x held) (sym (number 4 s v h)) ∙ apart s v held stays)
-    ∙ ap (λ (x : ℕ). bitXor x held) (sym (ap (λ (k : ℕ). steps k (bitXor s held)) e ∙ steps-add 32 (n * 32) (bitXor s held)))
+    ∙ word-steps n (crcFrom s (bytes 4 v)) v h
+    ∙ ap (λ (x : ℕ). bitXor (steps (n * 32) x) fixed)
+    (ap (λ (x : ℕ). bitXor x fixed) (sym (number 4 s v h)) ∙ apart s v fixed (word-fixed v h))
+    ∙ ap (λ (x : ℕ). bitXor x fixed) (sym (ap (λ (k : ℕ). steps k (bitXor s fixed)) e ∙ steps-add 32 (n * 32) (bitXor s fixed)))

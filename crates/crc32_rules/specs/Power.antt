@@ -14,15 +14,19 @@ repeated n xs = flatten (replicate n xs)
 abbrev pub unit : ℕ
 unit = 0x80000000
 
--- the n highest of the 32 bits of b, highest first: a is added where the bit is 1, and then goes a one-bit step on
-unfoldable pub climb : ℕ → ℕ → ℕ → ℕ → ℕ
-climb zero b acc a = acc
-climb (suc n) b acc a = climb n (b % 2 ^ 31 * 2) (bitXor acc (b / 2 ^ 31 * a)) (bit a)
+-- shift and add, over the n highest of the 32 bits of b: a is added where the bit is 1, and then goes a one-bit step on
+unfoldable pub shiftAdd : ℕ → ℕ → ℕ → ℕ → ℕ
+shiftAdd zero b acc a = acc
+shiftAdd (suc n) b acc a = shiftAdd n (b % 2 ^ 31 * 2) (bitXor acc (b / 2 ^ 31 * a)) (bit a)
 
 -- the product of two reflected polynomials modulo the polynomial
 abbrev pub times : ℕ → ℕ → ℕ
-times b a = climb 32 b 0 a
+times b a = shiftAdd 32 b 0 a
 
--- a word times this is the state that the word's four bytes bring back: 32 steps of this, with one added, make it again
-abbrev pub back : ℕ
-back = 0x39A38F74
+-- one's fixed point: 32 steps of it with one added make it again
+abbrev pub fixedOne : ℕ
+fixedOne = 0x39A38F74
+
+-- a word's fixed point: the state that the four bytes of the word leave as it is
+abbrev pub fixedPoint : ℕ → ℕ
+fixedPoint w = times w fixedOne

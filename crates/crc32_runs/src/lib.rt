@@ -1,22 +1,22 @@
 // CRC-32 over runs: n zero bytes, or n times a word, from a state, in O(log n) steps.
 //
-// n steps of the state are its product by the n-th power of x, and the powers come by squaring. A word brings one
-// state back to itself; how far a state is from that one goes on over the word as over four zero bytes.
+// n steps of the state are its product by the n-th power of x, and the powers come by squaring. A word leaves one state
+// as it is, its fixed point; over the word, the difference of a state from it goes on as over four zero bytes.
 ghost use mathlib.Core.Path.{_≡_};
 ghost use Prim.Native.Nat.{ℕ, _*_, _/_, _%_, _^_};
 ghost use lib.Bits.{bitXor};
 ghost use lib.ListN.{replicate};
 ghost use Rattle.crc32_rules.specs.Crc.{bit, steps, crcFrom};
 ghost use Rattle.fields_rules.specs.Number.{bytes};
-ghost use Rattle.crc32_rules.specs.Power.{unit, times, repeated, back};
+ghost use Rattle.crc32_rules.specs.Power.{unit, times, repeated, fixedPoint};
 
 // x to the power 8 and to the power 32, as reflected polynomials: a byte's steps, a word's steps.
 const BYTE: u32 = 0x00800000;
 
 const WORD: u32 = 0xEDB88320;
 
-// A word times this is the state that the word brings back.
-const BACK: u32 = 0x39A38F74;
+// The fixed point of one; that of a word is the word times this.
+const FIXED: u32 = 0x39A38F74;
 
 // One bit a step. The mask is all ones where the lowest bit is 1, so that nothing branches on it.
 fn one(state: u32) -> u32
@@ -55,13 +55,13 @@ fn product(b: u32, a: u32) -> u32
     acc
 }
 
-// n times: how far the state is from the one that the word brings back is multiplied by `power`. Where that is x to
-// the power e, these are n times e one-bit steps.
+// n times: the difference of the state from the word's fixed point is multiplied by `power`. Where that is x to the
+// power e, these are n times e one-bit steps.
 fn run(state: u32, word: u32, power: u32, n: u64) -> u32
-    ensures { λ r. ⌜ ((e : ℕ) → power ≡ steps e unit → r ≡ bitXor (steps (n * e) (bitXor state (times word back))) (times word back)) ⌝ }
+    ensures { λ r. ⌜ ((e : ℕ) → power ≡ steps e unit → r ≡ bitXor (steps (n * e) (bitXor state (fixedPoint word))) (fixedPoint word)) ⌝ }
 {
-    let held = product(word, BACK);
-    let mut s = state ^ held;
+    let fixed = product(word, FIXED);
+    let mut s = state ^ fixed;
     let mut p = power;
     let mut m = n;
     while m > 0 {
@@ -73,10 +73,10 @@ fn run(state: u32, word: u32, power: u32, n: u64) -> u32
             p = product(p, p);
         }
     }
-    s ^ held
+    s ^ fixed
 }
 
-// The state after n zero bytes. The word 0 brings back the state 0.
+// The state after n zero bytes. The fixed point of the word 0 is 0.
 pub fn update_zeros(state: u32, n: u64) -> u32
     ensures { λ r. ⌜ r ≡ crcFrom state (replicate n 0) ⌝ }
 {
@@ -90,7 +90,7 @@ pub fn update_word(state: u32, word: u32, n: u64) -> u32
     run(state, word, WORD, n)
 }
 
-// The state after as many zero bytes as a power stands for: what they make of one.
+// The state after as many zero bytes as a power stands for; the power is what they make of one.
 pub fn carry(state: u32, power: u32) -> u32
     ensures { λ r. ⌜ ((n : ℕ) → power ≡ crcFrom unit (replicate n 0) → r ≡ crcFrom state (replicate n 0)) ⌝ }
 {

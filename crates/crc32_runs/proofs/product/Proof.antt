@@ -4,12 +4,12 @@ use mathlib.Core.Path.{_≡_, refl, sym, _∙_}
 use Prim.Native.Nat.{suc, _+_, _-_, _*_, _≤_}
 use native.Mathlib.Omega.{arith}
 use borrow.Author.Needs.{needs}
-use Rattle.crc32_rules.specs.Power.{climb, times}
+use Rattle.crc32_rules.specs.Power.{shiftAdd, times}
 use Rattle.crc32_runs.proofs.product.Statement.{statement}
 use Rattle.crc32_runs.proofs.product.Tie as tie
 
 abbrev Inv-loop : tie.InvT-loop
-Inv-loop b a acc₀ left₀ power₀ i₀ acc left power i = (i ≤ 16) × (times b a ≡ climb ((16 - i) * 2) left acc power)
+Inv-loop b a acc₀ left₀ power₀ i₀ acc left power i = (i ≤ 16) × (times b a ≡ shiftAdd ((16 - i) * 2) left acc power)
 
 abbrev μ-loop : tie.MeasureT-loop
 μ-loop b a acc₀ left₀ power₀ i₀ acc left power i = 16 - i
@@ -45,7 +45,7 @@ loop-less : tie.Need-loop-less Inv-loop μ-loop
 loop-less c = search needs
 
 loop-again : tie.Need-loop-again Inv-loop μ-loop
-unfolding climb
+unfolding shiftAdd
 loop-again c =
     let first = c .before .before .before .before in
     let at = first .before .before .before .before .loop in
@@ -56,7 +56,7 @@ loop-again c =
     )
 
 returns : tie.Need-returns Inv-loop μ-loop
-unfolding climb
+unfolding shiftAdd
 returns c =
     let at = c .before .loop in
     let none : (16 - at .i) * 2 ≡ 0 = omega arith in

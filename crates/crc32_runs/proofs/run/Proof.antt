@@ -13,10 +13,10 @@ use Rattle.crc32_runs.proofs.run.Statement.{statement}
 use Rattle.crc32_runs.proofs.run.Tie as tie
 
 abbrev Inv-loop : tie.InvT-loop
-Inv-loop state word power n held s₀ p₀ m₀ s p m = (e : ℕ) → power ≡ steps e unit → Now (steps (n * e) (bitXor state held)) s p m
+Inv-loop state word power n fixed s₀ p₀ m₀ s p m = (e : ℕ) → power ≡ steps e unit → Now (steps (n * e) (bitXor state fixed)) s p m
 
 abbrev μ-loop : tie.MeasureT-loop
-μ-loop state word power n held s₀ p₀ m₀ s p m = m
+μ-loop state word power n fixed s₀ p₀ m₀ s p m = m
 
 loop-holds : tie.Need-loop-holds Inv-loop μ-loop
 loop-holds c e h = record {
@@ -63,9 +63,9 @@ loop-again-2 c e h =
 returns : tie.Need-returns Inv-loop μ-loop
 returns c e h =
     let a = c .before .before .before .args in
-    let held = c .before .before .product in
-    ap (λ (x : ℕ). bitXor x (held .result)) (no-turn (c .before .loop .inv e h) (omega arith))
-    ∙ ap (λ (x : ℕ). bitXor (steps (a .n * e) (bitXor (a .state) x)) x) (held .ensures)
+    let fixed = c .before .before .product in
+    ap (λ (x : ℕ). bitXor x (fixed .result)) (no-turn (c .before .loop .inv e h) (omega arith))
+    ∙ ap (λ (x : ℕ). bitXor (steps (a .n * e) (bitXor (a .state) x)) x) (fixed .ensures)
 
 pub run-spec : {M : Type 1} → statement M
 run-spec =

@@ -1,12 +1,9 @@
 -- `crc32_runs::update_word` meets its contract: a word is 32 one-bit steps.
 -- Assumes nothing.
 use mathlib.Core.Path.{refl, sym, _∙_}
-use Prim.Native.Nat.{_^_, _<_}
 use native.Mathlib.Omega.{arith}
 use borrow.Author.Needs.{needs}
 use Rattle.crc32_rules.specs.Crc.{bit, steps}
-use Rattle.crc32_rules.specs.Power.{times, back}
-use Rattle.crc32_rules.proofs.Products.{word-back}
 use Rattle.crc32_rules.proofs.Runs.{word-steps}
 use Rattle.crc32_runs.proofs.update_word.Statement.{statement}
 use Rattle.crc32_runs.proofs.update_word.Tie as tie
@@ -18,9 +15,7 @@ returns : tie.Need-returns
 unfolding steps bit
 returns c =
     let a = c .before .args in
-    let fits : a .word < 2 ^ 32 = omega arith in
-    c .run .ensures 32 refl
-    ∙ sym (word-steps (a .n) (a .state) (a .word) (times (a .word) back) fits (word-back (a .word) fits))
+    c .run .ensures 32 refl ∙ sym (word-steps (a .n) (a .state) (a .word) (omega arith))
 
 pub update-word-spec : {M : Type 1} → statement M
 update-word-spec = tie.close (tie.spec run-requires returns)

@@ -5,7 +5,7 @@ use Prim.Native.Nat.{ℕ, _*_}
 use lib.Bits.{bitXor, xor-zero-r}
 use borrow.Author.Needs.{needs}
 use Rattle.crc32_rules.specs.Crc.{bit, steps}
-use Rattle.crc32_rules.proofs.Products.{zero-back}
+use Rattle.crc32_rules.proofs.Products.{zero-fixed}
 use Rattle.crc32_rules.proofs.Runs.{zero-steps}
 use Rattle.crc32_runs.proofs.update_zeros.Statement.{statement}
 use Rattle.crc32_runs.proofs.update_zeros.Tie as tie
@@ -18,7 +18,7 @@ unfolding steps bit
 returns c =
     let a = c .before .args in
     c .run .ensures 8 refl
-    ∙ ap (λ (x : ℕ). bitXor (steps (a .n * 8) (bitXor (a .state) x)) x) zero-back
+    ∙ ap (λ (x : ℕ). bitXor (steps (a .n * 8) (bitXor (a .state) x)) x) zero-fixed
     ∙ xor-zero-r (steps (a .n * 8) (bitXor (a .state) 0))
     ∙ ap (steps (a .n * 8)) (xor-zero-r (a .state))
     ∙ sym (zero-steps (a .n) (a .state))
