@@ -30,8 +30,8 @@
  * moved: use the names below (and see The slot record). 0.6.0 only adds to 0.5.0.
  * From 0.6.0 to 0.7.0 a slot record grew from 21 bytes to 22: the count of startable
  * slots stands at its end. Code compiled with a header before 0.7.0 lends too little:
- * compile it anew. 0.8.0 only adds to 0.7.0; 0.8.1 is smaller and faster, and
- * nothing else about it is new.
+ * compile it anew. 0.8.0 only adds to 0.7.0; 0.8.1 is smaller, and faster on short
+ * data, and nothing else about it is new.
  *
  * Where it runs
  *

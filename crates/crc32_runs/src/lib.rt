@@ -76,10 +76,13 @@ fn run(state: u32, word: u32, power: u32, n: u64) -> u32
     s ^ fixed
 }
 
-// The state after n zero bytes. The fixed point of the word 0 is 0.
+// The state after n zero bytes, for which nothing is worked out where there are none. The fixed point of the word 0 is 0.
 pub fn update_zeros(state: u32, n: u64) -> u32
     ensures { λ r. ⌜ r ≡ crcFrom state (replicate n 0) ⌝ }
 {
+    if n == 0 {
+        return state;
+    }
     run(state, 0, BYTE, n)
 }
 

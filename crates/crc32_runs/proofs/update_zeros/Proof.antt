@@ -5,6 +5,7 @@ use Prim.Native.Nat.{ℕ, _*_}
 use lib.Bits.{bitXor, xor-zero-r}
 use borrow.Author.Needs.{needs}
 use Rattle.crc32_rules.specs.Crc.{bit, steps}
+use Rattle.crc32_rules.proofs.Laws.{crc-nil}
 use Rattle.crc32_rules.proofs.Products.{zero-fixed}
 use Rattle.crc32_rules.proofs.Runs.{zero-steps}
 use Rattle.crc32_runs.proofs.update_zeros.Statement.{statement}
@@ -14,9 +15,12 @@ run-requires : tie.Need-run-requires
 run-requires c κs = search needs
 
 returns : tie.Need-returns
+returns c = rw (c .if1 .taken) (sym (crc-nil (c .before .args .state)))
+
+returns-2 : tie.Need-returns-2
 unfolding steps bit
-returns c =
-    let a = c .before .args in
+returns-2 c =
+    let a = c .before .before .args in
     c .run .ensures 8 refl
     ∙ ap (λ (x : ℕ). bitXor (steps (a .n * 8) (bitXor (a .state) x)) x) zero-fixed
     ∙ xor-zero-r (steps (a .n * 8) (bitXor (a .state) 0))
@@ -24,4 +28,4 @@ returns c =
     ∙ sym (zero-steps (a .n) (a .state))
 
 pub update-zeros-spec : {M : Type 1} → statement M
-update-zeros-spec = tie.close (tie.spec run-requires returns)
+update-zeros-spec = tie.close (tie.spec returns run-requires returns-2)
