@@ -30,7 +30,6 @@ static const char *const meaning[] = {
     [TARPAULARK_BAD_BOOT_PAGE_SIZE] = "page size not a number with a single one bit from 2,048 to 16,384",
     [TARPAULARK_BAD_BOOT_END] = "a section that is not empty ends past the input",
     [TARPAULARK_BAD_BOOT_RECOVERY] = "recovery size not 0 and its offset not the computed position",
-    [TARPAULARK_BAD_BOOT_POSITION] = "a section position does not fit in 64 bits",
     [TARPAULARK_BAD_RECORD] = "invalid slot record, or a fresh record for a number of slots not 1 to 4",
     [TARPAULARK_BAD_SLOT] = "slot past d or not in use",
     [TARPAULARK_BAD_CONFIRM] = "confirming an unbootable or corrupted slot",

@@ -31,7 +31,9 @@
  * From 0.6.0 to 0.7.0 a slot record grew from 21 bytes to 22: the count of startable
  * slots stands at its end. Code compiled with a header before 0.7.0 lends too little:
  * compile it anew. 0.8.0 only adds to 0.7.0; 0.8.1 is smaller, and faster on short
- * data, and nothing else about it is new.
+ * data, and nothing else about it is new. From 0.8.1 to 0.9.0 one name went, that of
+ * refusal 28, which no image could get: it is retired, and the number is never used
+ * again.
  *
  * Where it runs
  *
@@ -81,7 +83,7 @@
 #include <stdint.h>
 
 /* The version of the header, the library and the host tool; it stands only here. */
-#define TARPAULARK_VERSION "0.8.1"
+#define TARPAULARK_VERSION "0.9.0"
 
 /* Lengths of the answers, of a slot record and each slot in it, of the state of a
    pass, and of a run in numbers. */
@@ -124,10 +126,10 @@
     (4 * ((uint64_t)(first_len) + (uint64_t)(second_len)))
 
 /*
- * Refusals. Tests run in the order listed, but for 13 before 12, 28, 27 before 26,
- * and for a pass 16, 14, 15 before all others; for compare and join the first
- * image's own, the second's own, 17, 18. Chunks are tested in order, each fully
- * before the next.
+ * Refusals. Tests run in the order listed, but for 13 before 12, 27 before 26, and
+ * for a pass 16, 14, 15 before all others; for compare and join the first image's
+ * own, the second's own, 17, 18. Chunks are tested in order, each fully before the
+ * next.
  *
  * A sparse refusal carries a place: 0 for numbers 1 to 6, the chunk's offset for
  * 7, 8 and a passed total, the offset after the header and all chunks for a short
@@ -187,12 +189,10 @@ enum tarpaulark_refusal {
     TARPAULARK_BAD_BOOT_HEADER_SIZE = 24,
     /* page size not a number with a single one bit from 2,048 to 16,384 */
     TARPAULARK_BAD_BOOT_PAGE_SIZE = 25,
-    /* a section that is not empty ends past the input (after 28 and 27) */
+    /* a section that is not empty ends past the input (after 27) */
     TARPAULARK_BAD_BOOT_END = 26,
     /* recovery size not 0 and its offset not the computed position */
     TARPAULARK_BAD_BOOT_RECOVERY = 27,
-    /* a section position does not fit in 64 bits */
-    TARPAULARK_BAD_BOOT_POSITION = 28,
     /* invalid slot record, or bytes that are none; fresh record for a number of
        slots not 1 to 4 */
     TARPAULARK_BAD_RECORD = 31,
@@ -559,7 +559,7 @@ uint32_t tarpaulark_pass_store_finish(
 
 /*
  * Finds the sections of a boot image. Reads the image.
- * Refusals, in this order: 21, 22, 23, 21, 24, 25, 28, 27, 26.
+ * Refusals, in this order: 21, 22, 23, 21, 24, 25, 27, 26.
  * answer: version; then for kernel, ramdisk, second, recovery, dtb and signature
  * in turn 1 if the version has that section (else 0), its position, its size. An
  * empty section has the position where it would begin. After a refusal all are 0.

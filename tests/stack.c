@@ -1,7 +1,7 @@
 /*
  * Measures how much stack a call of each exported function takes: the call runs on a stack of its own whose words
  * were painted, and the lowest word that lost its paint tells how deep it went, less what an empty call takes. The
- * inputs are accepted ones and, by damage, ones that get every refusal but 28. Prints one line, `stack: N calls of
+ * inputs are accepted ones and, by damage, ones that get every refusal. Prints one line, `stack: N calls of
  * M functions take at most B bytes`; ends with 1 where a call, with its state where it is one of a pass, takes more
  * than include/tarpaulark.h promises for the call, or a refusal was not met.
  */
@@ -514,7 +514,7 @@ static void try_slots(void)
         }
 }
 
-/* Whether the calls got every refusal that the header names, but for 28. */
+/* Whether the calls got every refusal that the header names. */
 static bool all_met(void)
 {
     static const uint8_t spans[][2] = {{0, 18}, {21, 27}, {31, 33}};

@@ -8,7 +8,6 @@ import fields
 MAGIC = b"ANDROID!"
 VERSION_AT = 40
 SHORTEST = 44
-LARGEST_POSITION = 2**64 - 1
 
 RECOVERY = "recovery"
 SECTION_NAMES = ("kernel", "ramdisk", "second", RECOVERY, "dtb", "signature")
@@ -119,9 +118,7 @@ def layout(page: int, sizes: List[Tuple[str, int]]) -> List[Section]:
 def section_number(
     sections: List[Section], recovery_offset: int, image_length: int
 ) -> int:
-    """The first of 28, 27 and 26 that applies; 0 for none."""
-    if any(section.position > LARGEST_POSITION for section in sections):
-        return 28
+    """The first of 27 and 26 that applies; 0 for none."""
     for section in sections:
         if section.name == RECOVERY and section.size != 0:
             if recovery_offset != section.position:

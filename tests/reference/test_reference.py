@@ -724,14 +724,22 @@ class TestBoot(unittest.TestCase):
         self.check(build.boot_image(2, 9000, recovery=1, recovery_offset=low, **sizes), 27)
         self.check(build.boot_image(3, 9000, kernel=2**32 - 4096), 26)
 
-    def test_position_past_64_bits(self) -> None:
-        """28 by its rule alone: the sizes of a header, 32 bits each, cannot reach it."""
-        sections = boot.layout(4096, [("kernel", 2**64 - 4096), ("ramdisk", 0)])
-        self.assertEqual(boot.section_number(sections, 0, 0), 28)
-        fits = boot.layout(4096, [("kernel", 2**64 - 8192), ("ramdisk", 0)])
-        self.assertEqual(boot.section_number(fits, 0, 0), 26)
-        largest = boot.layout(16384, [(name, 2**32 - 1) for name in boot.SECTION_NAMES])
-        self.assertLess(largest[-1].position, 2**35)
+    def farthest(self, pages: Sequence[int], sizes: Sequence[int]) -> int:
+        """The farthest position in any version, with any of the pages and all sizes one of these."""
+        return max(
+            section.position
+            for row, page, size in itertools.product(boot.TABLE, pages, sizes)
+            for section in boot.layout(page, [(name, size) for name, _ in row.size_at])
+        )
+
+    def test_positions_in_36_bits(self) -> None:
+        """02, CR 9: no header puts a position past 64 bits. 35 are enough where the page keeps
+        its rule; where it breaks it, whatever the fields hold, 36 are, and 35 are not."""
+        most = 2**32 - 1
+        sizes = (0, 1, most - 1, most)
+        self.assertEqual(self.farthest((2048, 16384), sizes), 4 * 2**32 + 16384)
+        self.assertEqual(self.farthest((1, 3, 2**31 + 1, most - 1, most), sizes), 9 * (most - 1))
+        self.assertTrue(4 * 2**32 + 16384 < 2**35 < 9 * (most - 1) < 2**36)
 
     def test_order(self) -> None:
         self.check(build.boot_image(4, 43, magic=b"android!"), 21)

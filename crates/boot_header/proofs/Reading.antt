@@ -11,8 +11,8 @@ use Rattle.boot_rules.specs.declared.Row.{Row}
 use Rattle.boot_rules.specs.Sections.{rowIn, pageBy, pageIn, offsetIn}
 use Rattle.boot_rules.specs.Table.{has, number, wordAt, headerSize, pageSize, recoveryOffset}
 use Rattle.boot_rules.specs.Tests.{missized}
-use Rattle.boot_rules.proofs.Rule.{numbers}
 use Rattle.boot_rules.proofs.Reading.{number-read, word-number, page-stated, page-fixed}
+use Rattle.boot_rules.proofs.Widths.{numbers}
 use Rattle.fields_rules.specs.Number.{numberAt}
 
 module _ (s : List ℕ) (f : Field) (w : ℕ) where

@@ -1,110 +1,118 @@
--- Laws of laying sections out: one step, as the code carries it, and all six. Assumes nothing.
-use mathlib.Core.Path.{_≡_, refl, sym, ap, _∙_, subst}
-use mathlib.Core.Bool.{Bool, true, false, _||_}
-use mathlib.Core.List.{List, [], _∷_}
-use Prim.Native.Nat.{ℕ, _+_, _^_, _≤_, _<_}
-use native.Mathlib.Omega.{arith}
-use lib.Dec.{leb, ltb}
-use borrow.Author.Tests.{ltb-true, ltb-false, lt-ltb, le-ltb, le-leb, lt-leb}
-use Rattle.boot_rules.specs.declared.Section.{Section}
-use Rattle.boot_image.specs.declared.pages.Start.{Start}
-use Rattle.boot_image.specs.declared.sections.Step.{Step}
+-- Laws of laying sections out: one step, as the code makes it, and all six, each from where the one before it ends.
+-- Assumes nothing.
+use mathlib.Core.Path.{_≡_, sym, ap, _∙_, subst}
+use mathlib.Core.Bool.{true}
+use mathlib.Core.List.{List}
+use Prim.Native.Nat.{ℕ, suc, _+_, _≤_, _<_}
+use lib.Dec.{lit<}
+use lib.ListN.{getD}
+use borrow.Author.Tests.{lt-ltb, le-ltb}
 use Rattle.boot_rules.specs.declared.Field.{Field}
+use Rattle.boot_rules.specs.declared.Layout.{Layout}
 use Rattle.boot_rules.specs.declared.Row.{Row}
+use Rattle.boot_image.specs.declared.sections.Step.{Step}
 use Rattle.boot_rules.specs.Pages.{isPage, roundUp}
-use Rattle.boot_rules.specs.Sections.{versionOf, rowIn, pageIn, noSection, sectionAt, place, sectionsOf}
-use Rattle.boot_image.specs.Steps.{carried, Stepped, StepOver, laidOut}
-use Rattle.boot_rules.specs.Table.{field, has, sizeFields}
-use Rattle.boot_rules.specs.Tests.{anyOf, tooFar}
-use Rattle.rules.specs.Answer.{accepted, refused}
-use Rattle.rules.proofs.Tests.{or-left, or-right}
-use Rattle.boot_bounds.proofs.Ends.{any-six}
-use Rattle.boot_rules.proofs.Rounding.{page}
-use Rattle.boot_image.proofs.Carrying.{fits-of, start-fits, start-past}
-
--- the first section begins at one page
-pub first-start : (n : ℕ) → isPage n ≡ true → record { past = false; at = n } ≡ carried n
-first-start n t = let g = page n t in sym (start-fits n (omega arith))
-
-past-is : (x : Start) (p : ℕ) → x ≡ carried p → x .past ≡ leb (2 ^ 64) p
-past-is x p e = go (ltb p (2 ^ 64)) refl
-  where
-    go : (b : Bool) → ltb p (2 ^ 64) ≡ b → x .past ≡ leb (2 ^ 64) p
-    go true t =
-        let l = ltb-true p (2 ^ 64) t in
-        ap (λ (y : Start). y .past) (e ∙ start-fits p l) ∙ sym (lt-leb (2 ^ 64) p l)
-    go false t =
-        let l = ltb-false p (2 ^ 64) t in
-        ap (λ (y : Start). y .past) (e ∙ start-past p l) ∙ sym (le-leb (2 ^ 64) p l)
+use Rattle.boot_rules.specs.Positions.{positionBound}
+use Rattle.boot_rules.specs.Sections.{versionOf, rowIn, pageIn, noSection, sectionAt, startsOf, sectionsOf, layoutOf}
+use Rattle.boot_rules.specs.Table.{has, number, lacking, sizeFields}
+use Rattle.boot_image.specs.Steps.{Ready, Stepped}
+use Rattle.boot_rules.proofs.Placing.{start-first, start-next, section-at}
+use Rattle.boot_rules.proofs.Positions.{near}
+use Rattle.boot_rules.proofs.Widths.{numbers}
+use Rattle.fields_rules.specs.Number.{Bytes}
 
 -- a step over a section of the version, and over one that it lacks
-module _ (f : Field) (x next : Start) (p n m k : ℕ) (e : x ≡ carried p) (q : n ≡ m) (h : next ≡ carried (roundUp (p + n) k)) where
-  pub step-here : 0 < f .width → Stepped (record { past = x .past; section = record { present = true; position = x .at; size = n }; next = next }) (sectionAt (has f) p m) (roundUp (p + m) k)
-  step-here w =
-      subst (λ (t : Bool). Stepped (record { past = x .past; section = record { present = true; position = x .at; size = n }; next = next }) (sectionAt t p m) (roundUp (p + m) k)) (sym (lt-ltb 0 (f .width) w))
-      (record {
-        past = past-is x p e;
-        section = λ t. let i = fits-of x p e t in let j = i .same in cc;
-        next = h ∙ ap (λ (y : ℕ). carried (roundUp (p + y) k)) q;
-      })
+module _ (s : List ℕ) (f : Field) (start next n k : ℕ) (q : n ≡ number s f) (h : next ≡ roundUp (start + n) k) where
+  pub step-here : 0 < f .width → Stepped s k f start (record { section = record { present = true; position = start; size = n }; next = next })
+  step-here w = record { section = rw (lt-ltb 0 (f .width) w, q); next = h ∙ ap (λ (y : ℕ). roundUp (start + y) k) q }
 
-  pub step-none : f .width ≤ 0 → Stepped (record { past = false; section = noSection; next = next }) (sectionAt (has f) p m) (roundUp (p + m) k)
-  step-none w =
-      subst (λ (t : Bool). Stepped (record { past = false; section = noSection; next = next }) (sectionAt t p m) (roundUp (p + m) k)) (sym (le-ltb 0 (f .width) w))
-      (record {
-        past = refl;
-        section = λ t. refl;
-        next = h ∙ ap (λ (y : ℕ). carried (roundUp (p + y) k)) q;
-      })
+  pub step-none : f .width ≤ 0 → Stepped s k f start (record { section = noSection; next = next })
+  step-none w = record { section = rw (le-ltb 0 (f .width) w); next = h ∙ ap (λ (y : ℕ). roundUp (start + y) k) q }
 
-module _ (v : ℕ) (u w x y z t : Section) (a b c d e g : Step) (i j k l m n : ℕ) (sa : Stepped a u i) (sb : Stepped b w j) (sc : Stepped c x k) (sd : Stepped d y l) (se : Stepped e z m) (sg : Stepped g t n) where
-  any-past : (a .past || b .past || c .past || d .past || e .past || g .past) ≡ anyOf tooFar (u ∷ w ∷ x ∷ y ∷ z ∷ t ∷ [])
-  any-past = any-six tooFar u w x y z t (a .past) (b .past) (c .past) (d .past) (e .past) (g .past) (sa .past) (sb .past) (sc .past) (sd .past) (se .past) (sg .past)
+-- what is known of an image before its sections are laid out: its page, which is right, and its row
+pub record Known (s : List ℕ) (k : ℕ) (r : Row) : Type 0 where
+  pub small : Bytes s
+  pub page : k ≡ pageIn s
+  pub right : isPage (pageIn s) ≡ true
+  pub row : r ≡ rowIn s
 
-  -- a position does not fit
-  all-past : (a .past || b .past || c .past || d .past || e .past || g .past) ≡ true → refused 28 0 ≡ laidOut v (u ∷ w ∷ x ∷ y ∷ z ∷ t ∷ [])
-  all-past h = rw (sym any-past ∙ h)
+module _ {s : List ℕ} {k : ℕ} {r : Row} (known : Known s k r) where
+  -- the step over section i from where it begins
+  module _ (i x : ℕ) (e : x ≡ getD (startsOf s) i 0) where
+    ready : Ready k (getD (sizeFields r) i lacking) x
+    ready = (
+      ap isPage (known .page) ∙ known .right,
+      numbers r (versionOf s) (known .row) .sizes i,
+      subst (λ (n : ℕ). n < positionBound) (sym e) (near s (known .small) .starts i),
+    )
 
-  -- all of them fit
-  all-fit : (a .past || b .past || c .past || d .past || e .past || g .past) ≡ false → accepted (record { version = v; kernel = a .section; ramdisk = b .section; second = c .section; recovery = d .section; dtb = e .section; signature = g .section }) ≡ laidOut v (u ∷ w ∷ x ∷ y ∷ z ∷ t ∷ [])
-  all-fit h =
-      let h₅ = or-left (a .past || b .past || c .past || d .past || e .past) (g .past) h in
-      let h₄ = or-left (a .past || b .past || c .past || d .past) (e .past) h₅ in
-      let h₃ = or-left (a .past || b .past || c .past) (d .past) h₄ in
-      let h₂ = or-left (a .past || b .past) (c .past) h₃ in
-      let ea = sa .section (or-left (a .past) (b .past) h₂) in
-      let eb = sb .section (or-right (a .past) (b .past) h₂) in
-      let ec = sc .section (or-right (a .past || b .past) (c .past) h₃) in
-      let ed = sd .section (or-right (a .past || b .past || c .past) (d .past) h₄) in
-      let ee = se .section (or-right (a .past || b .past || c .past || d .past) (e .past) h₅) in
-      let eg = sg .section (or-right (a .past || b .past || c .past || d .past || e .past) (g .past) h) in
-      rw (sym any-past ∙ h, ea, eb, ec, ed, ee, eg)
+    module _ (y : Step) (h : Stepped s k (getD (sizeFields r) i lacking) x y) where
+      on : suc i < 6 → y .next ≡ getD (startsOf s) (suc i) 0
+      on l =
+          h .next
+          ∙ ap (λ (n : ℕ). roundUp (n + number s (getD (sizeFields r) i lacking)) k) e
+          ∙ ap (λ (q : Row). roundUp (getD (startsOf s) i 0 + number s (getD (sizeFields q) i lacking)) k) (known .row)
+          ∙ ap (λ (n : ℕ). roundUp (getD (startsOf s) i 0 + number s (getD (sizeFields (rowIn s)) i lacking)) n) (known .page)
+          ∙ start-next s i l
 
--- the six steps from the first page on
-module _ (s : List ℕ) (v k : ℕ) (r : Row) (a b c d e g : Step) (ve : v ≡ versionOf s) (ke : k ≡ pageIn s) (re : r ≡ rowIn s) (t : isPage k ≡ true) (ha : StepOver s k (field (r .at .kernel) (r .width .kernel)) (record { past = false; at = k }) a) (hb : StepOver s k (field (r .at .ramdisk) (r .width .ramdisk)) (a .next) b) (hc : StepOver s k (field (r .at .second) (r .width .second)) (b .next) c) (hd : StepOver s k (field (r .at .recovery) (r .width .recovery)) (c .next) d) (he : StepOver s k (field (r .at .dtb) (r .width .dtb)) (d .next) e) (hg : StepOver s k (field (r .at .signature) (r .width .signature)) (e .next) g) where
-  here : laidOut v (place s k k (sizeFields r)) ≡ laidOut (versionOf s) (sectionsOf s)
-  unfolding sectionsOf
-  here =
-      ap (λ (n : ℕ). laidOut n (place s k k (sizeFields r))) ve
-      ∙ ap (λ (n : ℕ). laidOut (versionOf s) (place s n n (sizeFields r))) ke
-      ∙ ap (λ (x : Row). laidOut (versionOf s) (place s (pageIn s) (pageIn s) (sizeFields x))) re
+      here : i < 6 → y .section ≡ getD (sectionsOf s) i noSection
+      here l =
+          h .section
+          ∙ ap (λ (n : ℕ). sectionAt (has (getD (sizeFields r) i lacking)) n (number s (getD (sizeFields r) i lacking))) e
+          ∙ ap (λ (q : Row). sectionAt (has (getD (sizeFields q) i lacking)) (getD (startsOf s) i 0) (number s (getD (sizeFields q) i lacking))) (known .row)
+          ∙ section-at s i l
 
-  pub laid-past : (a .past || b .past || c .past || d .past || e .past || g .past) ≡ true → refused 28 0 ≡ laidOut (versionOf s) (sectionsOf s)
-  laid-past h =
-      let sa = ha k (first-start k t) in
-      let sb = hb _ (sa .next) in
-      let sc = hc _ (sb .next) in
-      let sd = hd _ (sc .next) in
-      let se = he _ (sd .next) in
-      let sg = hg _ (se .next) in
-      all-past v _ _ _ _ _ _ a b c d e g _ _ _ _ _ _ sa sb sc sd se sg h ∙ here
+  -- the six steps from the first page on
+  first-start : k ≡ getD (startsOf s) 0 0
+  first-start = known .page ∙ start-first s
 
-  pub laid-fits : (a .past || b .past || c .past || d .past || e .past || g .past) ≡ false → accepted (record { version = v; kernel = a .section; ramdisk = b .section; second = c .section; recovery = d .section; dtb = e .section; signature = g .section }) ≡ laidOut (versionOf s) (sectionsOf s)
-  laid-fits h =
-      let sa = ha k (first-start k t) in
-      let sb = hb _ (sa .next) in
-      let sc = hc _ (sb .next) in
-      let sd = hd _ (sc .next) in
-      let se = he _ (sd .next) in
-      let sg = hg _ (se .next) in
-      all-fit v _ _ _ _ _ _ a b c d e g _ _ _ _ _ _ sa sb sc sd se sg h ∙ here
+  pub ready-first : Ready k (getD (sizeFields r) 0 lacking) k
+  ready-first = ready 0 k first-start
+
+  module _ (a : Step) (ha : Stepped s k (getD (sizeFields r) 0 lacking) k a) where
+    start-1 : a .next ≡ getD (startsOf s) 1 0
+    start-1 = on 0 k first-start a ha (lit< tt)
+
+    pub ready-1 : Ready k (getD (sizeFields r) 1 lacking) (a .next)
+    ready-1 = ready 1 (a .next) start-1
+
+    module _ (b : Step) (hb : Stepped s k (getD (sizeFields r) 1 lacking) (a .next) b) where
+      start-2 : b .next ≡ getD (startsOf s) 2 0
+      start-2 = on 1 (a .next) start-1 b hb (lit< tt)
+
+      pub ready-2 : Ready k (getD (sizeFields r) 2 lacking) (b .next)
+      ready-2 = ready 2 (b .next) start-2
+
+      module _ (c : Step) (hc : Stepped s k (getD (sizeFields r) 2 lacking) (b .next) c) where
+        start-3 : c .next ≡ getD (startsOf s) 3 0
+        start-3 = on 2 (b .next) start-2 c hc (lit< tt)
+
+        pub ready-3 : Ready k (getD (sizeFields r) 3 lacking) (c .next)
+        ready-3 = ready 3 (c .next) start-3
+
+        module _ (d : Step) (hd : Stepped s k (getD (sizeFields r) 3 lacking) (c .next) d) where
+          start-4 : d .next ≡ getD (startsOf s) 4 0
+          start-4 = on 3 (c .next) start-3 d hd (lit< tt)
+
+          pub ready-4 : Ready k (getD (sizeFields r) 4 lacking) (d .next)
+          ready-4 = ready 4 (d .next) start-4
+
+          module _ (e : Step) (he : Stepped s k (getD (sizeFields r) 4 lacking) (d .next) e) where
+            start-5 : e .next ≡ getD (startsOf s) 5 0
+            start-5 = on 4 (d .next) start-4 e he (lit< tt)
+
+            pub ready-5 : Ready k (getD (sizeFields r) 5 lacking) (e .next)
+            ready-5 = ready 5 (e .next) start-5
+
+            module _ (g : Step) (hg : Stepped s k (getD (sizeFields r) 5 lacking) (e .next) g) (v : ℕ) (ve : v ≡ versionOf s) where
+              pub laid : record { version = v; kernel = a .section; ramdisk = b .section; second = c .section; recovery = d .section; dtb = e .section; signature = g .section } ≡ layoutOf (versionOf s) (sectionsOf s)
+              laid =
+                  rw (
+                    ve,
+                    here 0 k first-start a ha (lit< tt),
+                    here 1 (a .next) start-1 b hb (lit< tt),
+                    here 2 (b .next) start-2 c hc (lit< tt),
+                    here 3 (c .next) start-3 d hd (lit< tt),
+                    here 4 (d .next) start-4 e he (lit< tt),
+                    here 5 (e .next) start-5 g hg (lit< tt),
+                  )

@@ -1,3 +1,2 @@
-pub mod Carrying
 pub mod Judging
 pub mod Laying

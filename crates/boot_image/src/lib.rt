@@ -21,15 +21,12 @@ pub fn locate(image: &[u8]) -> Located
     if 0 < refusal {
         return Located::Refused(refusal);
     }
-    let laid = lay(image);
-    let Located::Found(layout) = laid else {
-        return laid;
-    };
+    let layout = lay(image);
     if misplaced(offset_in(image), layout.recovery) {
         return Located::Refused(27);
     }
     if any_overrun(image.len() as u64, layout) {
         return Located::Refused(26);
     }
-    laid
+    Located::Found(layout)
 }

@@ -1,20 +1,21 @@
--- Laws of the answer for a boot image: what the tests say of it, that no refusal has the number 0, and that it tells the
--- cases of the code's enum apart. Assumes nothing.
+-- Laws of the answer for a boot image: what the tests say of it, that no refusal has the number 0 or one above 27, and
+-- that it tells the cases of the code's enum apart. Assumes nothing.
 use mathlib.Core.Path.{_≡_, refl, sym, ap, _∙_}
 use mathlib.Core.Bool.{true, false}
 use mathlib.Core.List.{List}
-use Prim.Native.Nat.{ℕ, _≤_, _<_}
+use Prim.Native.Nat.{ℕ, _≤_, _<_, zero-le}
 use native.Mathlib.Omega.{arith}
 use lib.ListN.{length}
 use Rattle.rules.specs.Answer.{Answer, accepted, refused, unless}
 use Rattle.rules.specs.First.{first}
-use Rattle.rules.proofs.Answer.{unless-refused, unless-passed, unless-accepted, unless-number}
+use Rattle.rules.proofs.Answer.{unless-refused, unless-passed, unless-accepted, unless-number, unless-most}
+use Rattle.rules.proofs.Tests.{first-most}
 use Rattle.boot_rules.specs.declared.Layout.{Layout}
 use Rattle.boot_rules.specs.declared.Located.{Located}
 use Rattle.boot_rules.specs.declared.Located.the-variants.{Found, Refused}
 use Rattle.boot_rules.specs.Pages.{isPage}
 use Rattle.boot_rules.specs.Sections.{versionOf, pageIn, sectionsOf, layoutOf}
-use Rattle.boot_rules.specs.Tests.{anyOf, overruns, headTests, sectionTests, answer, answerOf, RefusalNumbers}
+use Rattle.boot_rules.specs.Tests.{anyOf, overruns, headTests, sectionTests, answer, answerOf, RefusalNumbers, Retired}
 use Rattle.boot_rules.proofs.Tests.{head-page, sections-end}
 
 -- the case of the enum that an answer is
@@ -36,6 +37,13 @@ unfolding answer
 refusal-numbers s =
     let found : Answer Layout = accepted (layoutOf (versionOf s) (sectionsOf s)) in
     unless-number (first (headTests s)) 0 (unless (first (sectionTests s)) 0 found) (unless-number (first (sectionTests s)) 0 found tt)
+
+-- nor one above 27
+pub retired : Retired
+unfolding headTests sectionTests answer
+retired s =
+    unless-most (first (headTests s)) 0 27 _ (first-most 27 (headTests s) (tt, (tt, (tt, (tt, (tt, (tt, tt)))))))
+    (unless-most (first (sectionTests s)) 0 27 _ (first-most 27 (sectionTests s) (tt, (tt, tt))) zero-le)
 
 module _ (s : List ℕ) where
   -- a refusal of the header is the answer

@@ -1,6 +1,9 @@
 pub mod Rounding
 pub mod Rule
 pub mod Reading
+pub mod Positions
+pub mod Placing
+pub mod Widths
 pub mod Tests
 pub mod Answers
 pub mod Sound

@@ -1,16 +1,17 @@
 -- Laws of pages: a number with a single one bit is the power of two that its trailing zeros say, so the shifts round up
--- to a page; and where the section after another begins, as the code carries it. Assumes nothing.
+-- to a page; and between what rounding up stays. Assumes nothing.
 use mathlib.Core.Path.{_≡_, refl, sym, ap, _∙_, subst}
-use mathlib.Core.Bool.{Bool, true, false, _&&_}
+use mathlib.Core.Bool.{true, _&&_}
 use Prim.Native.Nat.{ℕ, zero, suc, _+_, _-_, _*_, _/_, _%_, _^_, _≤_, _<_}
-use native.Mathlib.Nat.{div-add-mod', mod-lt, pow-suc, div-mul-le-self, mod-eq-of-lt, mul-le-mul-right, mul-mod-left, le-trans, le-of-eq}
+use native.Mathlib.Nat.{div-add-mod', mod-lt, pow-suc, div-mul-le-self, mod-eq-of-lt, mul-mod-left}
 use native.Mathlib.Omega.{arith}
 use lib.Arith.{lt-one}
 use lib.Count.{ones, ones-step, trailingZeros, trailing-le, under}
 use lib.Dec.{leb, eqb}
-use lib.Pow.{shr-lt, shr-mono, shl-shr, pow-add}
+use lib.Pow.{shr-lt}
 use borrow.Author.Tests.{leb-true, eqb-true}
 use Rattle.boot_rules.specs.Pages.{isPage, roundUp}
+use Rattle.rules.proofs.Tests.{both}
 
 half : (k n : ℕ) → n < 2 ^ suc k → n / 2 < 2 ^ k
 half k n h = shr-lt k 1 (subst (λ (x : ℕ). n < 2 ^ x) (e k) h)
@@ -50,10 +51,6 @@ one-bit (suc k) n h e = go (one-bit k (n / 2) (half k n h)) (n % 2) refl
         let i : n / 2 ≡ 0 = no-bit k (n / 2) (half k n h) (omega arith) in
         omega arith
 
-both-true : (a b : Bool) → (a && b) ≡ true → (a ≡ true) × (b ≡ true)
-both-true true b e = (refl, e)
-both-true false b e = (e, cc)
-
 -- what the test of a page size says
 pub record Page (x : ℕ) : Type 0 where
   pub low : 2048 ≤ x
@@ -63,8 +60,8 @@ pub record Page (x : ℕ) : Type 0 where
 
 pub page : (x : ℕ) → isPage x ≡ true → Page x
 page x t =
-    let u = both-true (leb 2048 x && leb x 16384) (eqb (ones x) 1) t in
-    let v = both-true (leb 2048 x) (leb x 16384) (u .0) in
+    let u = both (leb 2048 x && leb x 16384) (eqb (ones x) 1) t in
+    let v = both (leb 2048 x) (leb x 16384) (u .0) in
     let lo = leb-true 2048 x (v .0) in
     let hi = leb-true x 16384 (v .1) in
     let l = trailing-le 32 x in
@@ -83,25 +80,12 @@ round-whole n x = mul-mod-left ((n + (x - 1)) / x) x
 pub round-up : (n x : ℕ) → 0 < x → n ≤ roundUp n x
 round-up n x h = let d = div-add-mod' (n + (x - 1)) x in let m = mod-lt (n + (x - 1)) h in omega arith
 
+-- and not past the page after
+pub round-most : (n x : ℕ) → roundUp n x ≤ n + x
+round-most n x = let l = div-mul-le-self (n + (x - 1)) x in omega arith
+
 -- the shifts round up to a page
 pub rounded : (n x : ℕ) → Page x → n + (x - 1) < 2 ^ 64 → ((n + (x - 1)) / 2 ^ trailingZeros 32 x * 2 ^ trailingZeros 32 x) % 2 ^ 64 ≡ roundUp n x
 rounded n x p h =
     ap (λ (y : ℕ). ((n + (x - 1)) / y * y) % 2 ^ 64) (sym (p .power))
     ∙ mod-eq-of-lt (let l = div-mul-le-self (n + (x - 1)) x in let q = p .low in omega arith)
-
--- a multiple of a power of two at or below n is not below 2 ^ 64 where n is not
-up : (k n : ℕ) → k ≤ 64 → 2 ^ 64 ≤ n → 2 ^ 64 ≤ n / 2 ^ k * 2 ^ k
-up k n hk h =
-    let j : 64 ≡ (64 - k) + k = omega arith in
-    let e : 2 ^ 64 ≡ 2 ^ (64 - k) * 2 ^ k = ap (λ (i : ℕ). 2 ^ i) j ∙ pow-add 2 (64 - k) k in
-    let m : 2 ^ (64 - k) ≤ n / 2 ^ k = le-trans (le-of-eq (sym (shl-shr (2 ^ (64 - k)) k))) (shr-mono k (le-trans (le-of-eq (sym e)) h)) in
-    le-trans (le-of-eq e) (mul-le-mul-right (2 ^ k) m)
-
--- the rounded position fits in 64 bits exactly where the sum before rounding does
-pub over : (n x : ℕ) → Page x → 2 ^ 64 ≤ n + (x - 1) → 2 ^ 64 ≤ roundUp n x
-over n x p h =
-    let s = p .shift in
-    subst (λ (y : ℕ). 2 ^ 64 ≤ (n + (x - 1)) / y * y) (sym (p .power)) (up (trailingZeros 32 x) (n + (x - 1)) (omega arith) h)
-
-pub under-64 : (n x : ℕ) → n + (x - 1) < 2 ^ 64 → roundUp n x < 2 ^ 64
-under-64 n x h = let l = div-mul-le-self (n + (x - 1)) x in omega arith

@@ -1,6 +1,6 @@
 -- The table's rule, proved once over all rows by tests that antt computes: the fields of each version are packed without
--- gaps, and those that are read as numbers have four or eight bytes. Assumes nothing.
-use mathlib.Core.Path.{_≡_, refl, sym, ap, _∙_, subst}
+-- gaps; and any test of a row, at every version. Assumes nothing.
+use mathlib.Core.Path.{_≡_, refl, ap, _∙_}
 use mathlib.Core.Bool.{Bool, true, false, _&&_, _||_}
 use mathlib.Core.List.{List, [], _∷_}
 use Prim.Native.Nat.{ℕ, zero, suc, _+_, _<_}
@@ -11,7 +11,7 @@ use lib.ListN.{getD, List·getD-eq-default}
 use borrow.Author.Tests.{ltb-true, ltb-false}
 use Rattle.boot_rules.specs.declared.Field.{Field}
 use Rattle.boot_rules.specs.declared.Row.{Row}
-use Rattle.boot_rules.specs.Table.{isWord, isDouble, field, lacking, noRow, table, rowOf, columns, lastEnd, widths, Within, Packed}
+use Rattle.boot_rules.specs.Table.{field, lacking, noRow, table, rowOf, columns, lastEnd, widths, Within, Packed}
 use Rattle.rules.specs.Every.{every}
 use Rattle.rules.proofs.Table.{both-left, both-right, at}
 
@@ -84,39 +84,10 @@ holds-true true t = refl
 holds-true false t = absurd t
 
 -- a test that passes over the table and at no row passes at every version
-everywhere : (f : Row → Bool) → T (every (λ _ r. f r) 0 table) → T (f noRow) → (v : ℕ) → f (rowOf v) ≡ true
+pub everywhere : (f : Row → Bool) → T (every (λ _ r. f r) 0 table) → T (f noRow) → (v : ℕ) → f (rowOf v) ≡ true
 unfolding rowOf
 everywhere f t z v = go (ltb v 5) refl
   where
     go : (b : Bool) → ltb v 5 ≡ b → f (getD table v noRow) ≡ true
     go true e = holds-true (f (getD table v noRow)) (at noRow (λ _ r. f r) table t v (ltb-true v 5 e))
     go false e = ap f (List·getD-eq-default table noRow (ltb-false v 5 e)) ∙ holds-true (f noRow) z
-
--- the fields that are read as numbers
-pub record Numbers (r : Row) : Type 0 where
-  pub headersize : isWord (field (r .at .headersize) (r .width .headersize)) ≡ true
-  pub page : isWord (field (r .at .page) (r .width .page)) ≡ true
-  pub kernel : isWord (field (r .at .kernel) (r .width .kernel)) ≡ true
-  pub ramdisk : isWord (field (r .at .ramdisk) (r .width .ramdisk)) ≡ true
-  pub second : isWord (field (r .at .second) (r .width .second)) ≡ true
-  pub recovery : isWord (field (r .at .recovery) (r .width .recovery)) ≡ true
-  pub dtb : isWord (field (r .at .dtb) (r .width .dtb)) ≡ true
-  pub signature : isWord (field (r .at .signature) (r .width .signature)) ≡ true
-  pub offset : isDouble (field (r .at .offset) (r .width .offset)) ≡ true
-
-numbers-at : (v : ℕ) → Numbers (rowOf v)
-numbers-at v =
-    record {
-      headersize = everywhere (λ r. isWord (field (r .at .headersize) (r .width .headersize))) tt tt v;
-      page = everywhere (λ r. isWord (field (r .at .page) (r .width .page))) tt tt v;
-      kernel = everywhere (λ r. isWord (field (r .at .kernel) (r .width .kernel))) tt tt v;
-      ramdisk = everywhere (λ r. isWord (field (r .at .ramdisk) (r .width .ramdisk))) tt tt v;
-      second = everywhere (λ r. isWord (field (r .at .second) (r .width .second))) tt tt v;
-      recovery = everywhere (λ r. isWord (field (r .at .recovery) (r .width .recovery))) tt tt v;
-      dtb = everywhere (λ r. isWord (field (r .at .dtb) (r .width .dtb))) tt tt v;
-      signature = everywhere (λ r. isWord (field (r .at .signature) (r .width .signature))) tt tt v;
-      offset = everywhere (λ r. isDouble (field (r .at .offset) (r .width .offset))) tt tt v;
-    }
-
-pub numbers : (r : Row) (v : ℕ) → r ≡ rowOf v → Numbers r
-numbers r v e = subst Numbers (sym e) (numbers-at v)

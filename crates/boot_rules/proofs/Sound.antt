@@ -12,13 +12,17 @@ use Rattle.boot_rules.specs.declared.Layout.{Layout}
 use Rattle.boot_rules.specs.declared.Section.{Section}
 use Rattle.boot_rules.specs.declared.Field.{Field}
 use Rattle.boot_rules.specs.Pages.{roundUp}
-use Rattle.boot_rules.specs.Sections.{rowIn, pageIn, noSection, sectionAt, place, sectionsOf, sectionsIn}
+use Rattle.boot_rules.specs.Sections.{rowIn, pageIn, noSection, sectionAt, starts, startsOf, place, sectionsOf, sectionsIn}
 use Rattle.boot_rules.specs.Sound.{SoundSections, Sound}
 use Rattle.boot_rules.specs.Table.{has, number, sizeFields, Within}
 use Rattle.boot_rules.specs.Tests.{anyOf, overruns}
 use Rattle.rules.proofs.Tests.{or-left, or-right}
 use Rattle.boot_rules.proofs.Answers.{Passed, passed}
 use Rattle.boot_rules.proofs.Rounding.{page, round-up, round-whole}
+
+-- the sections of these size fields, the first of them at a position
+abbrev laid : List ℕ → ℕ → ℕ → List Field → List Section
+laid s x p fs = place s (starts s x p fs) fs
 
 present-there : (here : Bool) (p n : ℕ) → sectionAt here p n .present ≡ true → p ≤ sectionAt here p n .position
 present-there true p n e = le-refl p
@@ -37,7 +41,7 @@ never-present e = let z : _≡_ {A = ℕ} 0 1 = cc in omega arith
 
 module _ (s : List ℕ) (x : ℕ) (h : 0 < x) where
   -- no section begins before the position from which they are placed
-  begins-there : (fs : List Field) (p i : ℕ) → getD (place s x p fs) i noSection .present ≡ true → p ≤ getD (place s x p fs) i noSection .position
+  begins-there : (fs : List Field) (p i : ℕ) → getD (laid s x p fs) i noSection .present ≡ true → p ≤ getD (laid s x p fs) i noSection .position
   begins-there [] p i e = absurd (never-present e)
   begins-there (f ∷ fs) p zero e = present-there (has f) p (number s f) e
   begins-there (f ∷ fs) p (suc i) e =
@@ -45,7 +49,7 @@ module _ (s : List ℕ) (x : ℕ) (h : 0 < x) where
       let b = begins-there fs (roundUp (p + number s f) x) i e in
       omega arith
 
-  order-there : (fs : List Field) (p i j : ℕ) → i < j → getD (place s x p fs) j noSection .present ≡ true → getD (place s x p fs) i noSection .position + getD (place s x p fs) i noSection .size ≤ getD (place s x p fs) j noSection .position
+  order-there : (fs : List Field) (p i j : ℕ) → i < j → getD (laid s x p fs) j noSection .present ≡ true → getD (laid s x p fs) i noSection .position + getD (laid s x p fs) i noSection .size ≤ getD (laid s x p fs) j noSection .position
   order-there [] p i j l e = absurd (never-present e)
   order-there (f ∷ fs) p i zero l e = absurd (omega arith)
   order-there (f ∷ fs) p zero (suc j) l e =
@@ -55,7 +59,7 @@ module _ (s : List ℕ) (x : ℕ) (h : 0 < x) where
       omega arith
   order-there (f ∷ fs) p (suc i) (suc j) l e = order-there fs (roundUp (p + number s f) x) i j (le-of-suc-le-suc l) e
 
-  whole-all : (fs : List Field) (p i : ℕ) → p % x ≡ 0 → getD (place s x p fs) i noSection .position % x ≡ 0
+  whole-all : (fs : List Field) (p i : ℕ) → p % x ≡ 0 → getD (laid s x p fs) i noSection .position % x ≡ 0
   whole-all [] p i e = zero-mod x
   whole-all (f ∷ fs) p zero e = whole-there (has f) p (number s f) x e
   whole-all (f ∷ fs) p (suc i) e = whole-all fs (roundUp (p + number s f) x) i (round-whole (p + number s f) x)
@@ -81,14 +85,14 @@ absent-there : (here : Bool) (p n : ℕ) → sectionAt here p n .present ≡ fal
 absent-there true p n e = absurd (let z : _≡_ {A = ℕ} 0 1 = cc in omega arith)
 absent-there false p n e = refl
 
-absent-all : (s : List ℕ) (x : ℕ) (fs : List Field) (p i : ℕ) → getD (place s x p fs) i noSection .present ≡ false → getD (place s x p fs) i noSection .size ≡ 0
+absent-all : (s : List ℕ) (x : ℕ) (fs : List Field) (p i : ℕ) → getD (laid s x p fs) i noSection .present ≡ false → getD (laid s x p fs) i noSection .size ≡ 0
 absent-all s x [] p i e = refl
 absent-all s x (f ∷ fs) p zero e = absent-there (has f) p (number s f) e
 absent-all s x (f ∷ fs) p (suc i) e = absent-all s x fs (roundUp (p + number s f) x) i e
 
 -- the sections of an image whose tests all fail
 of-tests : (s : List ℕ) (l : Layout) → Passed s l → SoundSections (length s) (pageIn s) (sectionsOf s)
-unfolding sectionsOf
+unfolding startsOf sectionsOf
 of-tests s l a =
     let n = pageIn s in
     let g = page n (a .page) in
@@ -104,7 +108,7 @@ of-tests s l a =
 
 -- the sections of every accepted image are sound
 pub sound : Sound
-unfolding sectionsOf
+unfolding startsOf sectionsOf
 sound s l e =
     let a = passed s l e in
     subst (λ (y : Layout). SoundSections (length s) (pageIn s) (sectionsIn y)) (a .layout) (of-tests s l a)

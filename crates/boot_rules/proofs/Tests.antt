@@ -8,7 +8,7 @@ use lib.ListN.{length, getD}
 use borrow.Author.Tests.{not-false}
 use Rattle.boot_rules.specs.Pages.{isPage}
 use Rattle.boot_rules.specs.Sections.{versionOf, rowIn, pageIn, offsetIn, noSection, sectionsOf}
-use Rattle.boot_rules.specs.Tests.{magic, anyOf, tooFar, misplaced, overruns, missized, headTests, sectionTests}
+use Rattle.boot_rules.specs.Tests.{magic, anyOf, misplaced, overruns, missized, headTests, sectionTests}
 use Rattle.fields_rules.specs.Number.{numberAt}
 use Rattle.rules.specs.First.{first}
 use Rattle.rules.proofs.Tests.{all-fail}
@@ -49,23 +49,18 @@ module _ (s : List ℕ) where
             head-none h = rw (a, b, c, d, e, h)
 
   -- the tests of the sections
-  pub sections-28 : anyOf tooFar (sectionsOf s) ≡ true → 28 ≡ first (sectionTests s)
+  pub sections-27 : misplaced (offsetIn s) (getD (sectionsOf s) 3 noSection) ≡ true → 27 ≡ first (sectionTests s)
   unfolding sectionTests
-  sections-28 h = rw h
+  sections-27 h = rw h
 
-  module _ (a : anyOf tooFar (sectionsOf s) ≡ false) where
-    pub sections-27 : misplaced (offsetIn s) (getD (sectionsOf s) 3 noSection) ≡ true → 27 ≡ first (sectionTests s)
+  module _ (a : misplaced (offsetIn s) (getD (sectionsOf s) 3 noSection) ≡ false) where
+    pub sections-26 : anyOf (overruns (length s)) (sectionsOf s) ≡ true → 26 ≡ first (sectionTests s)
     unfolding sectionTests
-    sections-27 h = rw (a, h)
+    sections-26 h = rw (a, h)
 
-    module _ (b : misplaced (offsetIn s) (getD (sectionsOf s) 3 noSection) ≡ false) where
-      pub sections-26 : anyOf (overruns (length s)) (sectionsOf s) ≡ true → 26 ≡ first (sectionTests s)
-      unfolding sectionTests
-      sections-26 h = rw (a, b, h)
-
-      pub sections-none : anyOf (overruns (length s)) (sectionsOf s) ≡ false → 0 ≡ first (sectionTests s)
-      unfolding sectionTests
-      sections-none h = rw (a, b, h)
+    pub sections-none : anyOf (overruns (length s)) (sectionsOf s) ≡ false → 0 ≡ first (sectionTests s)
+    unfolding sectionTests
+    sections-none h = rw (a, h)
 
   -- what a header and sections that no test refuses say
   pub head-page : first (headTests s) ≡ 0 → isPage (pageIn s) ≡ true
@@ -76,4 +71,4 @@ module _ (s : List ℕ) where
 
   pub sections-end : first (sectionTests s) ≡ 0 → anyOf (overruns (length s)) (sectionsOf s) ≡ false
   unfolding sectionTests
-  sections-end e = all-fail (sectionTests s) (tt, (tt, (tt, tt))) e .1 .1 .0
+  sections-end e = all-fail (sectionTests s) (tt, (tt, tt)) e .1 .0

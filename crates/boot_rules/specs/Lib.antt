@@ -1,5 +1,6 @@
 pub mod Table
 pub mod Pages
 pub mod Sections
+pub mod Positions
 pub mod Tests
 pub mod Sound

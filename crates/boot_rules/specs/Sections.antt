@@ -40,14 +40,24 @@ noSection = record { present = false; position = 0; size = 0 }
 abbrev pub sectionAt : Bool → ℕ → ℕ → Section
 sectionAt here position size = cond here (record { present = true; position = position; size = size }) noSection
 
--- "each next one begins after the last, rounded up to a page": sections of these size fields, from a position on
-abbrev pub place : List ℕ → ℕ → ℕ → List Field → List Section
-place s page position [] = []
-place s page position (f ∷ fs) = sectionAt (has f) position (number s f) ∷ place s page (roundUp (position + number s f) page) fs
+-- "each next one begins after the last, rounded up to a page": where the sections of these size fields begin, the first of them at a position
+abbrev pub starts : List ℕ → ℕ → ℕ → List Field → List ℕ
+starts s page position [] = []
+starts s page position (f ∷ fs) = position ∷ starts s page (roundUp (position + number s f) page) fs
 
--- "The first section begins at one page": the sections of an image, those that its version lacks being marked
+-- "The first section begins at one page": where the sections of an image begin, or would where its version lacks one
+unfoldable pub startsOf : List ℕ → List ℕ
+startsOf s = starts s (pageIn s) (pageIn s) (sizeFields (rowIn s))
+
+-- the sections of these size fields, each where it begins
+abbrev pub place : List ℕ → List ℕ → List Field → List Section
+place s [] fs = []
+place s (p ∷ ps) [] = []
+place s (p ∷ ps) (f ∷ fs) = sectionAt (has f) p (number s f) ∷ place s ps fs
+
+-- the sections of an image, those that its version lacks being marked
 unfoldable pub sectionsOf : List ℕ → List Section
-sectionsOf s = place s (pageIn s) (pageIn s) (sizeFields (rowIn s))
+sectionsOf s = place s (startsOf s) (sizeFields (rowIn s))
 
 -- "its version and the position and size of each section of that version"
 abbrev pub layoutOf : ℕ → List Section → Layout

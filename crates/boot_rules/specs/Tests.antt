@@ -2,8 +2,8 @@
 -- Assumes nothing.
 use mathlib.Core.Bool.{Bool, false, _&&_, _||_, not}
 use mathlib.Core.List.{List, [], _∷_}
-use Prim.Native.Nat.{ℕ, _+_, _^_}
-use lib.Dec.{leb, ltb, eqb}
+use Prim.Native.Nat.{ℕ, _+_, _≤_}
+use lib.Dec.{ltb, eqb}
 use lib.ListN.{getD, length}
 use Rattle.boot_rules.specs.declared.Layout.{Layout}
 use Rattle.boot_rules.specs.declared.Located.{Located}
@@ -14,7 +14,7 @@ use Rattle.boot_rules.specs.Pages.{isPage}
 use Rattle.boot_rules.specs.Sections.{versionOf, rowIn, pageIn, offsetIn, noSection, sectionsOf, layoutOf}
 use Rattle.boot_rules.specs.Table.{has, number, headerSize}
 use Rattle.fields_rules.specs.Number.{numberAt}
-use Rattle.rules.specs.Answer.{Answer, accepted, refused, unless, HasNumber}
+use Rattle.rules.specs.Answer.{Answer, accepted, refused, unless, numberOf, HasNumber}
 use Rattle.rules.specs.First.{first}
 
 -- "Magic is `ANDROID!`"
@@ -25,10 +25,6 @@ magic = 0x41 ∷ 0x4E ∷ 0x44 ∷ 0x52 ∷ 0x4F ∷ 0x49 ∷ 0x44 ∷ 0x21 ∷ 
 abbrev pub anyOf : (Section → Bool) → List Section → Bool
 anyOf f [] = false
 anyOf f (x ∷ xs) = f x || anyOf f xs
-
--- "a section position does not fit in 64 bits"
-abbrev pub tooFar : Section → Bool
-tooFar x = leb (2 ^ 64) (x .position)
 
 -- "recovery size not 0 and its offset not the computed position"
 abbrev pub misplaced : ℕ → Section → Bool
@@ -56,8 +52,7 @@ headTests s =
 -- the tests of the sections, with the numbers of their refusals, in their order
 unfoldable pub sectionTests : List ℕ → List (Bool × ℕ)
 sectionTests s =
-    (anyOf tooFar (sectionsOf s), 28)
-    ∷ (misplaced (offsetIn s) (getD (sectionsOf s) 3 noSection), 27)
+    (misplaced (offsetIn s) (getD (sectionsOf s) 3 noSection), 27)
     ∷ (anyOf (overruns (length s)) (sectionsOf s), 26)
     ∷ []
 
@@ -73,3 +68,7 @@ answerOf (Refused n) = refused n 0
 -- no refusal of a boot image has the number 0
 abbrev pub RefusalNumbers : Type 0
 RefusalNumbers = (s : List ℕ) → HasNumber (answer s)
+
+-- "28 is never used again": no refusal of a boot image has a number above 27
+abbrev pub Retired : Type 0
+Retired = (s : List ℕ) → numberOf (answer s) ≤ 27

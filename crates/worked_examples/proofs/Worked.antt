@@ -7,7 +7,7 @@ use Rattle.crc32_rules.specs.Crc.{bit, steps, byteStep, crcFrom, crc32}
 use Rattle.slot_rules.specs.OneSlot.{countOf}
 use Rattle.slot_rules.specs.Records.{slotsValid, startableIn, valid}
 use Rattle.slot_rules.specs.Operations.{firstFrom, startOf, startableOf}
-use Rattle.boot_rules.specs.Sections.{sectionsOf}
+use Rattle.boot_rules.specs.Sections.{startsOf, sectionsOf}
 use Rattle.boot_rules.specs.Table.{rowOf}
 use Rattle.boot_rules.specs.Tests as boot
 use Rattle.sparse_rules.specs.Header.{headerTests}
@@ -35,5 +35,5 @@ use Rattle.worked_examples.specs.Calls.{perform}
 use Rattle.worked_examples.specs.Table.{Worked}
 
 pub worked : Worked
-unfolding perform numberAt ones onesIn bit steps byteStep crcFrom crc32 countOf slotsValid startableIn valid firstFrom startOf startableOf sectionsOf rowOf boot.headTests boot.sectionTests boot.answer headerTests kindOf sizeRight chunkTests chunkAt reading endTests walk cellsBy cellsOf cells zeroed checksumOf blocksWhere sumTests summed structure judged effectOf effect judge.answerFor judge.answer store blockCells blocksFrom flatBlocks runs allEqual storedKind packed chunkHeader chunk chunks version header image encode write.flatImage write.writeTests write.answer write.output blockFrom stretch blocksOf blocksFound found blocks alike each pairAnswer refusedImage diff.changes diff.diff diff.numbers diff.answer diff.listed join.joinedBlocks join.join join.answer join.output listing listingOf labelled refusedLine headerLine chunkLine chunkLines lastLine digitsUpTo decimal kindWord
+unfolding perform numberAt ones onesIn bit steps byteStep crcFrom crc32 countOf slotsValid startableIn valid firstFrom startOf startableOf startsOf sectionsOf rowOf boot.headTests boot.sectionTests boot.answer headerTests kindOf sizeRight chunkTests chunkAt reading endTests walk cellsBy cellsOf cells zeroed checksumOf blocksWhere sumTests summed structure judged effectOf effect judge.answerFor judge.answer store blockCells blocksFrom flatBlocks runs allEqual storedKind packed chunkHeader chunk chunks version header image encode write.flatImage write.writeTests write.answer write.output blockFrom stretch blocksOf blocksFound found blocks alike each pairAnswer refusedImage diff.changes diff.diff diff.numbers diff.answer diff.listed join.joinedBlocks join.join join.answer join.output listing listingOf labelled refusedLine headerLine chunkLine chunkLines lastLine digitsUpTo decimal kindWord
 worked = refl

@@ -1,5 +1,5 @@
 -- `boot_image::locate` meets its contract: each exit by its law. Assumes nothing.
-use Rattle.boot_image.proofs.Judging.{lay-refuses, out-27, out-26, out-accepted}
+use Rattle.boot_image.proofs.Judging.{out-27, out-26, out-accepted}
 use Rattle.boot_rules.proofs.Answers.{head-refuses, head-passed}
 use Rattle.boot_rules.proofs.Tests.{head-page}
 use borrow.Author.Needs.{needs}
@@ -17,47 +17,32 @@ lay-requires c κs =
     let s = c .before .before .before .args .image .now in
     head-page s (head-passed s _ (c .before .header-refusal .ensures) (c .if1 .left))
 
-enum-known-laid : tie.Need-enum-known-laid
-enum-known-laid c = search needs
-
-enum-told : tie.Need-enum-told
-enum-told c = search needs
-
-returns-2 : tie.Need-returns-2
-returns-2 c =
-    let p = c .before .before in
-    let s = p .before .before .before .before .args .image .now in
-    lay-refuses s _ (head-passed s _ (p .before .before .header-refusal .ensures) (p .before .if1 .left)) (p .lay .ensures) _ (c .enum-told .given .1)
-
 offset-in-requires : tie.Need-offset-in-requires
 offset-in-requires c κs = search needs
 
 misplaced-requires : tie.Need-misplaced-requires
 misplaced-requires c κs = search needs
 
-returns-3 : tie.Need-returns-3
-returns-3 c =
-    let p = c .before .before .before .before .before .before in
+returns-2 : tie.Need-returns-2
+returns-2 c =
+    let p = c .before .before .before in
     let s = p .before .before .before .before .args .image .now in
-    let k = c .before .before .before .before .laid .given in
-    out-27 s _ (head-passed s _ (p .before .before .header-refusal .ensures) (p .before .if1 .left)) (p .lay .ensures) (k .0 .0) (k .1) _ _ (c .before .before .offset-in .ensures) (c .before .misplaced .ensures) (c .if2 .taken)
+    out-27 s _ (head-passed s _ (p .before .before .header-refusal .ensures) (p .before .if1 .left)) (p .lay .ensures) _ _ (c .before .before .offset-in .ensures) (c .before .misplaced .ensures) (c .if2 .taken)
 
 any-overrun-requires : tie.Need-any-overrun-requires
 any-overrun-requires c κs = search needs
 
+returns-3 : tie.Need-returns-3
+returns-3 c =
+    let p = c .before .before .before .before .before in
+    let s = p .before .before .before .before .args .image .now in
+    out-26 s _ (head-passed s _ (p .before .before .header-refusal .ensures) (p .before .if1 .left)) (p .lay .ensures) _ _ (c .before .before .before .before .offset-in .ensures) (c .before .before .before .misplaced .ensures) (c .before .before .if2 .left) _ (c .before .any-overrun .ensures) (c .if3 .taken)
+
 returns-4 : tie.Need-returns-4
 returns-4 c =
-    let p = c .before .before .before .before .before .before .before .before in
+    let p = c .before .before .before .before .before in
     let s = p .before .before .before .before .args .image .now in
-    let k = c .before .before .before .before .before .before .laid .given in
-    out-26 s _ (head-passed s _ (p .before .before .header-refusal .ensures) (p .before .if1 .left)) (p .lay .ensures) (k .0 .0) (k .1) _ _ (c .before .before .before .before .offset-in .ensures) (c .before .before .before .misplaced .ensures) (c .before .before .if2 .left) _ (c .before .any-overrun .ensures) (c .if3 .taken)
-
-returns-5 : tie.Need-returns-5
-returns-5 c =
-    let p = c .before .before .before .before .before .before .before .before in
-    let s = p .before .before .before .before .args .image .now in
-    let k = c .before .before .before .before .before .before .laid .given in
-    out-accepted s _ (head-passed s _ (p .before .before .header-refusal .ensures) (p .before .if1 .left)) (p .lay .ensures) (k .0 .0) (k .1) _ _ (c .before .before .before .before .offset-in .ensures) (c .before .before .before .misplaced .ensures) (c .before .before .if2 .left) _ (c .before .any-overrun .ensures) (c .if3 .left)
+    out-accepted s _ (head-passed s _ (p .before .before .header-refusal .ensures) (p .before .if1 .left)) (p .lay .ensures) _ _ (c .before .before .before .before .offset-in .ensures) (c .before .before .before .misplaced .ensures) (c .before .before .if2 .left) _ (c .before .any-overrun .ensures) (c .if3 .left)
 
 pub locate-spec : {M : Type 1} → statement M
-locate-spec = tie.close (tie.spec header-refusal-requires returns lay-requires enum-known-laid enum-told returns-2 offset-in-requires misplaced-requires returns-3 any-overrun-requires returns-4 returns-5)
+locate-spec = tie.close (tie.spec header-refusal-requires returns lay-requires offset-in-requires misplaced-requires returns-2 any-overrun-requires returns-3 returns-4)

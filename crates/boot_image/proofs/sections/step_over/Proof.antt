@@ -15,13 +15,15 @@ after-requires c κs = search needs
 
 returns : tie.Need-returns
 returns c =
-    let a = c .before .before .before .before .args in
-    λ p e. step-here (field (a .at) (a .width)) (a .start) _ p _ _ (a .page) e (c .before .before .word .ensures ∙ word-number (a .image .now) (field (a .at) (a .width)) (c .before .before .before .before .pre .1)) (c .before .after .ensures p e) (c .if1 .taken)
+    let e = c .before .before .before .before in
+    let f = field (e .args .at) (e .args .width) in
+    step-here (e .args .image .now) f (e .args .start) _ _ (e .args .page) (c .before .before .word .ensures ∙ word-number (e .args .image .now) f (e .pre .1)) (c .before .after .ensures) (c .if1 .taken)
 
 returns-2 : tie.Need-returns-2
 returns-2 c =
-    let a = c .before .before .before .before .args in
-    λ p e. step-none (field (a .at) (a .width)) (a .start) _ p _ _ (a .page) e (c .before .before .word .ensures ∙ word-number (a .image .now) (field (a .at) (a .width)) (c .before .before .before .before .pre .1)) (c .before .after .ensures p e) (c .if1 .left)
+    let e = c .before .before .before .before in
+    let f = field (e .args .at) (e .args .width) in
+    step-none (e .args .image .now) f (e .args .start) _ _ (e .args .page) (c .before .before .word .ensures ∙ word-number (e .args .image .now) f (e .pre .1)) (c .before .after .ensures) (c .if1 .left)
 
 pub step-over-spec : {M : Type 1} → statement M
 step-over-spec = tie.close (tie.spec word-requires after-requires returns returns-2)
