@@ -31,9 +31,9 @@
  * From 0.6.0 to 0.7.0 a slot record grew from 21 bytes to 22: the count of startable
  * slots stands at its end. Code compiled with a header before 0.7.0 lends too little:
  * compile it anew. 0.8.0 only adds to 0.7.0; 0.8.1 is smaller, and faster on short
- * data, and nothing else about it is new. From 0.8.1 to 0.9.0 one name went, that of
- * refusal 28, which no image could get: it is retired, and the number is never used
- * again.
+ * data, and nothing else about it is new. From 0.8.1 to 0.9.0 one name went,
+ * TARPAULARK_BAD_BOOT_POSITION, 28, which no image could get: take it out of code that
+ * names it. Code that was compiled before works as it did, and 28 is never used again.
  *
  * Where it runs
  *

@@ -725,7 +725,8 @@ class TestBoot(unittest.TestCase):
         self.check(build.boot_image(3, 9000, kernel=2**32 - 4096), 26)
 
     def farthest(self, pages: Sequence[int], sizes: Sequence[int]) -> int:
-        """The farthest position in any version, with any of the pages and all sizes one of these."""
+        """The farthest position in any version, with any of the pages and every section of
+        one of the sizes."""
         return max(
             section.position
             for row, page, size in itertools.product(boot.TABLE, pages, sizes)
@@ -737,9 +738,10 @@ class TestBoot(unittest.TestCase):
         its rule; where it breaks it, whatever the fields hold, 36 are, and 35 are not."""
         most = 2**32 - 1
         sizes = (0, 1, most - 1, most)
-        self.assertEqual(self.farthest((2048, 16384), sizes), 4 * 2**32 + 16384)
-        self.assertEqual(self.farthest((1, 3, 2**31 + 1, most - 1, most), sizes), 9 * (most - 1))
-        self.assertTrue(4 * 2**32 + 16384 < 2**35 < 9 * (most - 1) < 2**36)
+        kept = self.farthest((2048, 4096, 8192, 16384), sizes)
+        broken = self.farthest((1, 3, 2**31 + 1, most - 1, most), sizes)
+        self.assertEqual((kept, broken), (4 * 2**32 + 16384, 9 * (most - 1)))
+        self.assertTrue(kept < 2**35 < broken < 2**36)
 
     def test_order(self) -> None:
         self.check(build.boot_image(4, 43, magic=b"android!"), 21)

@@ -8,7 +8,6 @@ use lib.Dec.{lit<}
 use lib.ListN.{getD}
 use borrow.Author.Tests.{lt-ltb, le-ltb}
 use Rattle.boot_rules.specs.declared.Field.{Field}
-use Rattle.boot_rules.specs.declared.Layout.{Layout}
 use Rattle.boot_rules.specs.declared.Row.{Row}
 use Rattle.boot_image.specs.declared.sections.Step.{Step}
 use Rattle.boot_rules.specs.Pages.{isPage, roundUp}
@@ -29,7 +28,7 @@ module _ (s : List ℕ) (f : Field) (start next n k : ℕ) (q : n ≡ number s f
   pub step-none : f .width ≤ 0 → Stepped s k f start (record { section = noSection; next = next })
   step-none w = record { section = rw (le-ltb 0 (f .width) w); next = h ∙ ap (λ (y : ℕ). roundUp (start + y) k) q }
 
--- what is known of an image before its sections are laid out: its page, which is right, and its row
+-- what is known of an image before its sections are laid out: that it is bytes, its page, which is right, and its row
 pub record Known (s : List ℕ) (k : ℕ) (r : Row) : Type 0 where
   pub small : Bytes s
   pub page : k ≡ pageIn s

@@ -14,7 +14,7 @@ use Rattle.boot_rules.specs.Table.{has, number, isWord}
 abbrev pub Ready : ℕ → Field → ℕ → Type 0
 Ready page f start = (isPage page ≡ true) × (isWord f ≡ true) × (start < positionBound)
 
--- the step over the section of a size field: the section where it begins, and where the next one does
+-- the step over the section of a size field: the section where it begins, and where the next one begins
 pub record Stepped (s : List ℕ) (page : ℕ) (f : Field) (start : ℕ) (r : Step) : Type 0 where
   pub section : r .section ≡ sectionAt (has f) start (number s f)
   pub next : r .next ≡ roundUp (start + number s f) page

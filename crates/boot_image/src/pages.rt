@@ -6,7 +6,7 @@ ghost use Rattle.boot_rules.specs.Pages.{isPage, roundUp};
 ghost use Rattle.boot_rules.specs.Positions.{positionBound};
 
 // Where the next section begins after one of `size` bytes at `start`: rounded up to a page by the
-// shift that the page's trailing zeros give. No section begins so far that the sum would not fit.
+// shift that the page's trailing zeros give. A start below the bound leaves room for both sums.
 pub(crate) fn after(start: u64, size: u32, page: u32) -> u64
     requires { ⌜ (isPage page ≡ true) × (start < positionBound) ⌝ }
     ensures { λ r. ⌜ r ≡ roundUp (start + size) page ⌝ }

@@ -8,14 +8,14 @@ use native.Mathlib.Omega.{arith}
 use lib.ListN.{length}
 use Rattle.rules.specs.Answer.{Answer, accepted, refused, unless}
 use Rattle.rules.specs.First.{first}
-use Rattle.rules.proofs.Answer.{unless-refused, unless-passed, unless-accepted, unless-number, unless-most}
+use Rattle.rules.proofs.Answer.{unless-refused, unless-passed, unless-accepted, accepted-same, unless-number, unless-most}
 use Rattle.rules.proofs.Tests.{first-most}
 use Rattle.boot_rules.specs.declared.Layout.{Layout}
 use Rattle.boot_rules.specs.declared.Located.{Located}
 use Rattle.boot_rules.specs.declared.Located.the-variants.{Found, Refused}
 use Rattle.boot_rules.specs.Pages.{isPage}
 use Rattle.boot_rules.specs.Sections.{versionOf, pageIn, sectionsOf, layoutOf}
-use Rattle.boot_rules.specs.Tests.{anyOf, overruns, headTests, sectionTests, answer, answerOf, RefusalNumbers, Retired}
+use Rattle.boot_rules.specs.Tests.{anyOf, overruns, headTests, sectionTests, answer, answerOf, RefusalNumbers, NumbersTo27}
 use Rattle.boot_rules.proofs.Tests.{head-page, sections-end}
 
 -- the case of the enum that an answer is
@@ -39,9 +39,9 @@ refusal-numbers s =
     unless-number (first (headTests s)) 0 (unless (first (sectionTests s)) 0 found) (unless-number (first (sectionTests s)) 0 found tt)
 
 -- nor one above 27
-pub retired : Retired
+pub numbers-to-27 : NumbersTo27
 unfolding headTests sectionTests answer
-retired s =
+numbers-to-27 s =
     unless-most (first (headTests s)) 0 27 _ (first-most 27 (headTests s) (tt, (tt, (tt, (tt, (tt, (tt, tt)))))))
     (unless-most (first (sectionTests s)) 0 27 _ (first-most 27 (sectionTests s) (tt, (tt, tt))) zero-le)
 
@@ -74,12 +74,9 @@ pub record Passed (s : List ℕ) (l : Layout) : Type 0 where
   pub ends : anyOf (overruns (length s)) (sectionsOf s) ≡ false
   pub layout : layoutOf (versionOf s) (sectionsOf s) ≡ l
 
-accepted-same : (a b : Layout) → accepted a ≡ accepted b → a ≡ b
-accepted-same a b e = cc
-
 pub passed : (s : List ℕ) (l : Layout) → answer s ≡ accepted l → Passed s l
 unfolding answer
 passed s l e =
     let h = unless-accepted (first (headTests s)) 0 (unless (first (sectionTests s)) 0 (accepted (layoutOf (versionOf s) (sectionsOf s)))) l e in
     let t = unless-accepted (first (sectionTests s)) 0 (accepted (layoutOf (versionOf s) (sectionsOf s))) l (h .1) in
-    record { page = head-page s (h .0); ends = sections-end s (t .0); layout = accepted-same _ l (t .1) }
+    record { page = head-page s (h .0); ends = sections-end s (t .0); layout = accepted-same (t .1) }

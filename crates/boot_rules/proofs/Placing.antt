@@ -6,9 +6,14 @@ use Prim.Native.Nat.{ℕ, zero, suc, _+_, _<_}
 use native.Mathlib.Nat.{le-of-suc-le-suc, not-suc-le-zero}
 use lib.ListN.{getD, length}
 use Rattle.boot_rules.specs.declared.Field.{Field}
+use Rattle.boot_rules.specs.declared.Section.{Section}
 use Rattle.boot_rules.specs.Pages.{roundUp}
 use Rattle.boot_rules.specs.Sections.{versionOf, rowIn, pageIn, noSection, sectionAt, starts, startsOf, place, sectionsOf, layoutOf, sectionsIn}
 use Rattle.boot_rules.specs.Table.{has, number, lacking, sizeFields}
+
+-- the sections of these size fields, the first of them at a position
+abbrev pub laid : List ℕ → ℕ → ℕ → List Field → List Section
+laid s x p fs = place s (starts s x p fs) fs
 
 module _ (s : List ℕ) (x : ℕ) where
   after-last : (fs : List Field) (p i : ℕ) → suc i < length fs → roundUp (getD (starts s x p fs) i 0 + number s (getD fs i lacking)) x ≡ getD (starts s x p fs) (suc i) 0
@@ -17,7 +22,7 @@ module _ (s : List ℕ) (x : ℕ) where
   after-last (f ∷ g ∷ fs) p zero l = refl
   after-last (f ∷ g ∷ fs) p (suc i) l = after-last (g ∷ fs) (roundUp (p + number s f) x) i (le-of-suc-le-suc l)
 
-  at-start : (fs : List Field) (p i : ℕ) → i < length fs → sectionAt (has (getD fs i lacking)) (getD (starts s x p fs) i 0) (number s (getD fs i lacking)) ≡ getD (place s (starts s x p fs) fs) i noSection
+  at-start : (fs : List Field) (p i : ℕ) → i < length fs → sectionAt (has (getD fs i lacking)) (getD (starts s x p fs) i 0) (number s (getD fs i lacking)) ≡ getD (laid s x p fs) i noSection
   at-start [] p i l = absurd (not-suc-le-zero l)
   at-start (f ∷ fs) p zero l = refl
   at-start (f ∷ fs) p (suc i) l = at-start fs (roundUp (p + number s f) x) i (le-of-suc-le-suc l)

@@ -31,7 +31,7 @@ unfolding far
 far-least [] p x = le-refl p
 far-least (f ∷ fs) p x = le-trans (let t : p ≤ p + 256 ^ f .width + x = omega arith in t) (far-least fs (p + 256 ^ f .width + x) x)
 
--- the most that the page of a row can be
+-- more than the page of a row can be, stated or not
 mostPage : Row → ℕ
 mostPage r = 256 ^ r .width .page + 4096
 

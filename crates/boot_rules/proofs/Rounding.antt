@@ -1,5 +1,5 @@
 -- Laws of pages: a number with a single one bit is the power of two that its trailing zeros say, so the shifts round up
--- to a page; and between what rounding up stays. Assumes nothing.
+-- to a page; and rounding up goes to a multiple of the page, never down and by a page at most. Assumes nothing.
 use mathlib.Core.Path.{_≡_, refl, sym, ap, _∙_, subst}
 use mathlib.Core.Bool.{true, _&&_}
 use Prim.Native.Nat.{ℕ, zero, suc, _+_, _-_, _*_, _/_, _%_, _^_, _≤_, _<_}
@@ -33,7 +33,7 @@ unfolding ones
 ones-zero = refl
 
 -- a number with a single one bit is a power of two
-pub one-bit : (k n : ℕ) → n < 2 ^ k → ones n ≡ 1 → n ≡ 2 ^ trailingZeros k n
+one-bit : (k n : ℕ) → n < 2 ^ k → ones n ≡ 1 → n ≡ 2 ^ trailingZeros k n
 unfolding trailingZeros
 one-bit zero n h e = let z = ap ones (lt-one h) in let o = ones-zero in omega arith
 one-bit (suc k) n h e = go (one-bit k (n / 2) (half k n h)) (n % 2) refl
@@ -80,7 +80,7 @@ round-whole n x = mul-mod-left ((n + (x - 1)) / x) x
 pub round-up : (n x : ℕ) → 0 < x → n ≤ roundUp n x
 round-up n x h = let d = div-add-mod' (n + (x - 1)) x in let m = mod-lt (n + (x - 1)) h in omega arith
 
--- and not past the page after
+-- and by a page at most
 pub round-most : (n x : ℕ) → roundUp n x ≤ n + x
 round-most n x = let l = div-mul-le-self (n + (x - 1)) x in omega arith
 

@@ -1,6 +1,6 @@
 -- The sections of an accepted image do not overlap, lie inside the input, begin at multiples of the page and stand in
 -- their order: one proof over the list of size fields. Assumes nothing.
-use mathlib.Core.Path.{_≡_, refl, subst}
+use mathlib.Core.Path.{_≡_, refl, sym, ap, _∙_, subst}
 use mathlib.Core.Bool.{Bool, true, false}
 use mathlib.Core.List.{List, [], _∷_}
 use Prim.Native.Nat.{ℕ, zero, suc, _+_, _%_, _≤_, _<_}
@@ -12,17 +12,14 @@ use Rattle.boot_rules.specs.declared.Layout.{Layout}
 use Rattle.boot_rules.specs.declared.Section.{Section}
 use Rattle.boot_rules.specs.declared.Field.{Field}
 use Rattle.boot_rules.specs.Pages.{roundUp}
-use Rattle.boot_rules.specs.Sections.{rowIn, pageIn, noSection, sectionAt, starts, startsOf, place, sectionsOf, sectionsIn}
+use Rattle.boot_rules.specs.Sections.{rowIn, pageIn, noSection, sectionAt, startsOf, sectionsOf, sectionsIn}
 use Rattle.boot_rules.specs.Sound.{SoundSections, Sound}
 use Rattle.boot_rules.specs.Table.{has, number, sizeFields, Within}
 use Rattle.boot_rules.specs.Tests.{anyOf, overruns}
 use Rattle.rules.proofs.Tests.{or-left, or-right}
 use Rattle.boot_rules.proofs.Answers.{Passed, passed}
+use Rattle.boot_rules.proofs.Placing.{laid, sections-laid}
 use Rattle.boot_rules.proofs.Rounding.{page, round-up, round-whole}
-
--- the sections of these size fields, the first of them at a position
-abbrev laid : List ℕ → ℕ → ℕ → List Field → List Section
-laid s x p fs = place s (starts s x p fs) fs
 
 present-there : (here : Bool) (p n : ℕ) → sectionAt here p n .present ≡ true → p ≤ sectionAt here p n .position
 present-there true p n e = le-refl p
@@ -108,7 +105,6 @@ of-tests s l a =
 
 -- the sections of every accepted image are sound
 pub sound : Sound
-unfolding startsOf sectionsOf
 sound s l e =
     let a = passed s l e in
-    subst (λ (y : Layout). SoundSections (length s) (pageIn s) (sectionsIn y)) (a .layout) (of-tests s l a)
+    subst (SoundSections (length s) (pageIn s)) (sym (sections-laid s) ∙ ap sectionsIn (a .layout)) (of-tests s l a)

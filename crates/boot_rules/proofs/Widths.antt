@@ -11,13 +11,13 @@ use Rattle.boot_rules.proofs.Rule.{everywhere}
 use Rattle.rules.specs.Every.{every}
 use Rattle.rules.proofs.Tests.{both}
 
--- a test that all size fields pass, at each of them
+-- where all size fields have four bytes or none, each has
 words : (fs : List Field) (k : ℕ) → every (λ _ f. isWord f) k fs ≡ true → (i : ℕ) → isWord (getD fs i lacking) ≡ true
 words [] k t i = refl
 words (f ∷ fs) k t zero = both (isWord f) (every (λ _ g. isWord g) (suc k) fs) t .0
 words (f ∷ fs) k t (suc i) = words fs (suc k) (both (isWord f) (every (λ _ g. isWord g) (suc k) fs) t .1) i
 
--- the fields of a row, where the version has them
+-- the fields of a row that are read as numbers: four or eight bytes, where the version has them
 pub record Numbers (r : Row) : Type 0 where
   pub headersize : isWord (headerSize r) ≡ true
   pub page : isWord (pageSize r) ≡ true

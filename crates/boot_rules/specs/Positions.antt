@@ -1,4 +1,4 @@
--- Where the sections of any input begin, refused or not: no position needs 64 bits, so no test asks whether one does.
+-- Where the sections of any input begin, refused or not: every position fits in 64 bits, so no test asks whether one does.
 -- Assumes nothing.
 use mathlib.Core.List.{List}
 use Prim.Native.Nat.{ℕ, _^_, _<_}
@@ -11,9 +11,9 @@ use Rattle.fields_rules.specs.Number.{Bytes}
 abbrev pub positionBound : ℕ
 positionBound = 2 ^ 36
 
--- where sections begin, or would where the version lacks one, and the positions of all that it has: below the bound, and so in 64 bits
-pub record NearPositions (begins : List ℕ) (xs : List Section) : Type 0 where
-  pub starts : (i : ℕ) → getD begins i 0 < positionBound
+-- where sections begin, or would where the version lacks one, and the positions in the answer: below the bound; and so every position fits in 64 bits
+pub record NearPositions (ps : List ℕ) (xs : List Section) : Type 0 where
+  pub starts : (i : ℕ) → getD ps i 0 < positionBound
   pub positions : (i : ℕ) → getD xs i noSection .position < positionBound
   pub fits : (i : ℕ) → getD xs i noSection .position < 2 ^ 64
 

@@ -49,7 +49,7 @@ starts s page position (f ∷ fs) = position ∷ starts s page (roundUp (positio
 unfoldable pub startsOf : List ℕ → List ℕ
 startsOf s = starts s (pageIn s) (pageIn s) (sizeFields (rowIn s))
 
--- the sections of these size fields, each where it begins
+-- the sections of these size fields, at these starts
 abbrev pub place : List ℕ → List ℕ → List Field → List Section
 place s [] fs = []
 place s (p ∷ ps) [] = []

@@ -70,5 +70,5 @@ abbrev pub RefusalNumbers : Type 0
 RefusalNumbers = (s : List ℕ) → HasNumber (answer s)
 
 -- "28 is never used again": no refusal of a boot image has a number above 27
-abbrev pub Retired : Type 0
-Retired = (s : List ℕ) → numberOf (answer s) ≤ 27
+abbrev pub NumbersTo27 : Type 0
+NumbersTo27 = (s : List ℕ) → numberOf (answer s) ≤ 27
