@@ -11,7 +11,7 @@ use Rattle.fields_rules.specs.Number.{Bytes}
 abbrev pub positionBound : ℕ
 positionBound = 2 ^ 36
 
--- where sections begin, or would where the version lacks one, and the positions in the answer: below the bound; and so every position fits in 64 bits
+-- where sections begin, or would where the version lacks one, and the positions of all that it has: below the bound; and so every position fits in 64 bits
 pub record NearPositions (ps : List ℕ) (xs : List Section) : Type 0 where
   pub starts : (i : ℕ) → getD ps i 0 < positionBound
   pub positions : (i : ℕ) → getD xs i noSection .position < positionBound
