@@ -2,9 +2,19 @@
 #include "chunks.h"
 #include "commands.h"
 
+/* Of a retired section: a line of text where one is present, and always a member of the object. */
+static void say_retired(bool present)
+{
+    say_flag("retired", present);
+    if (!present)
+        return;
+    say_word(" section present");
+    end_line();
+}
+
 enum status sections(const struct request *request)
 {
-    static const char *const names[] = {"kernel", "ramdisk", "second", "recovery", "dtb", "signature"};
+    static const char *const names[] = {"kernel", "ramdisk", "recovery", "dtb", "signature"};
     uint64_t answer[TARPAULARK_LOCATE_ANSWER];
     struct mapped image = read_image(request->words[0]);
     uint32_t number = tarpaulark_locate(image.at, image.length, answer);
@@ -27,5 +37,6 @@ enum status sections(const struct request *request)
         close_item();
     }
     close_list();
+    say_retired(answer[TARPAULARK_RETIRED_AT] != 0);
     return DONE;
 }

@@ -34,6 +34,11 @@
  * data, and nothing else about it is new. From 0.8.1 to 0.9.0 one name went,
  * TARPAULARK_BAD_BOOT_POSITION, 28, which no image could get: take it out of code that
  * names it. Code that was compiled before works as it did, and 28 is never used again.
+ * From 0.9.0 to 0.10.0 the answer of locate shrank from 19 entries to 17: it no longer
+ * has the second-stage loader, what stood after that moved, and its last entry is new.
+ * TARPAULARK_SECOND went, so code that names it no longer compiles: take it out. Code
+ * compiled with a header before 0.10.0, or that has numbers in place of the names below,
+ * finds recovery, dtb and signature in wrong entries: compile it anew, with the names.
  *
  * Where it runs
  *
@@ -83,7 +88,7 @@
 #include <stdint.h>
 
 /* The version of the header, the library and the host tool; it stands only here. */
-#define TARPAULARK_VERSION "0.9.0"
+#define TARPAULARK_VERSION "0.10.0"
 
 /* Lengths of the answers, of a slot record and each slot in it, of the state of a
    pass, and of a run in numbers. */
@@ -93,7 +98,7 @@
 #define TARPAULARK_WRITE_ANSWER 2
 #define TARPAULARK_HEADER_ANSWER 6
 #define TARPAULARK_CHUNK_ANSWER 6
-#define TARPAULARK_LOCATE_ANSWER 19
+#define TARPAULARK_LOCATE_ANSWER 17
 #define TARPAULARK_SLOTS_ANSWER 2
 #define TARPAULARK_STARTABLE_ANSWER 1
 #define TARPAULARK_RECORD 22
@@ -189,7 +194,7 @@ enum tarpaulark_refusal {
     TARPAULARK_BAD_BOOT_HEADER_SIZE = 24,
     /* page size not a number with a single one bit from 2,048 to 16,384 */
     TARPAULARK_BAD_BOOT_PAGE_SIZE = 25,
-    /* a section that is not empty ends past the input (after 27) */
+    /* a section that is not empty, be it a retired one, ends past the input (after 27) */
     TARPAULARK_BAD_BOOT_END = 26,
     /* recovery size not 0 and its offset not the computed position */
     TARPAULARK_BAD_BOOT_RECOVERY = 27,
@@ -260,20 +265,21 @@ enum {
 };
 
 /* Positions in the answer of locate: the version; then section number s has its
-   three numbers from TARPAULARK_SECTION(s) on. */
+   three numbers from TARPAULARK_SECTION(s) on; last, whether a retired section is
+   present. */
 enum {
     TARPAULARK_VERSION_AT = 0,
     TARPAULARK_SECTION_PRESENT = 0,
     TARPAULARK_SECTION_POSITION = 1,
-    TARPAULARK_SECTION_SIZE = 2
+    TARPAULARK_SECTION_SIZE = 2,
+    TARPAULARK_RETIRED_AT = 16
 };
 enum {
     TARPAULARK_KERNEL = 0,
     TARPAULARK_RAMDISK = 1,
-    TARPAULARK_SECOND = 2,
-    TARPAULARK_RECOVERY_IMAGE = 3,
-    TARPAULARK_DTB = 4,
-    TARPAULARK_SIGNATURE = 5
+    TARPAULARK_RECOVERY_IMAGE = 2,
+    TARPAULARK_DTB = 3,
+    TARPAULARK_SIGNATURE = 4
 };
 #define TARPAULARK_SECTION(s) (1 + 3 * (s))
 
@@ -559,10 +565,27 @@ uint32_t tarpaulark_pass_store_finish(
 
 /*
  * Finds the sections of a boot image. Reads the image.
+ *
+ * The version says which sections an image has, empty or not:
+ *
+ *    0  kernel, ramdisk
+ *    1  kernel, ramdisk, recovery
+ *    2  kernel, ramdisk, recovery, dtb
+ *    3  kernel, ramdisk
+ *    4  kernel, ramdisk, signature
+ *
+ * Images of versions 0 to 2 may also carry a second-stage loader, between ramdisk and
+ * recovery. No board of ours runs one: it is a retired section, which is not offered.
+ * All that is said of it is whether one is present, which is when its size is not 0.
+ * It still takes its room: later sections stand where they stood, the recovery offset
+ * counts it, and one that ends past the input is refused with 26. Versions 3 and 4
+ * have no such section: of an image of theirs it is never said that one is present.
+ *
  * Refusals, in this order: 21, 22, 23, 21, 24, 25, 27, 26.
- * answer: version; then for kernel, ramdisk, second, recovery, dtb and signature
- * in turn 1 if the version has that section (else 0), its position, its size. An
- * empty section has the position where it would begin. After a refusal all are 0.
+ * answer: version; then for kernel, ramdisk, recovery, dtb and signature in turn 1 if
+ * the version has that section (else 0), its position, its size; last, 1 if a retired
+ * section is present, else 0. An empty section has the position where it would begin.
+ * After a refusal all are 0.
  */
 uint32_t tarpaulark_locate(
     const uint8_t *image, size_t image_len, uint64_t answer[TARPAULARK_LOCATE_ANSWER]);

@@ -426,12 +426,15 @@ def output_length(rng: random.Random, first: bytes, second: bytes) -> int:
 
 
 def boot_input(rng: random.Random) -> bytes:
-    """A boot image, whole or damaged, or bytes that are none."""
+    """A boot image, whole or damaged, or with another size of the second section, which in
+    versions 3 and 4 are reserved bytes; or bytes that are none."""
     image = cases_boot.random_image(rng)
-    kind = below(rng, 8)
+    kind = below(rng, 9)
     if kind == 0:
         return some_bytes(rng, below(rng, 90))
-    if kind <= 3:
+    if kind == 1:
+        return build.with_bytes(image, 24, u32(rng.getrandbits(pick(rng, (1, 13, 32)))))
+    if kind <= 4:
         return damaged(rng, image, pick(rng, (48, 1664)))
     return image
 
@@ -555,7 +558,8 @@ def join_call(rng: random.Random) -> Call:
 
 
 def locate_call(rng: random.Random) -> Call:
-    """`locate`: version, then present, position and size of the six sections."""
+    """`locate`: version, then present, position and size of the five sections, then whether a
+    retired one is present."""
     image = boot_input(rng)
     number, *out = cases_boot.values(image)
     return Call((image,), number, tuple(out), (image,))
@@ -835,7 +839,7 @@ KINDS = (
     single("chunk", ("bytes", 64, 32), 6, chunk_call),
     single("compare", ("bytes", "bytes", "numbers"), 3, compare_call),
     single("join", ("bytes", "bytes", "bytes"), 3, join_call),
-    single("locate", ("bytes",), 19, locate_call),
+    single("locate", ("bytes",), 17, locate_call),
     single("slots_valid", ("record",), 0, valid_call),
     single("slots_startable", ("record",), 1, startable_call),
     single("slots_fresh", (32, "record"), 2, fresh_call),

@@ -34,7 +34,9 @@ HERE = os.path.dirname(os.path.abspath(__file__))
 ROOT = os.path.dirname(HERE)
 sys.path[:0] = [os.path.join(HERE, "reference"), os.path.join(ROOT, "host")]
 
+import boot
 import build
+import cases_boot
 import cases_compare
 import cases_store
 import compare
@@ -149,6 +151,9 @@ FILES: Dict[str, bytes] = {
     "flat": b"\xFF" * 4 + bytes(12),
     "sum0": b"\x9D\x0A\xD9\x6D",
     "boot": build.boot_image(3, 12289, kernel=4097, ramdisk=1),
+    "p11": build.boot_image(2, 6145, kernel=2048, ramdisk=1, dtb=1),
+    "archived": build.boot_image(2, 8193, kernel=2048, ramdisk=1, second=1, dtb=1),
+    "archived-cut": build.boot_image(0, 6145, kernel=2048, ramdisk=1, second=2),
     "odd": record_of("12000"),
     "ends": record_of("10000 10100"),
     "miscounted": record_of("10003 10013", startable=2),
@@ -378,6 +383,10 @@ CASES = (
     Case("write flat 8 missing/image", 3, ""),
     Case("write flat 8 flat", 2, ""),
     Case("sections boot", 0, "version 3\nkernel 4096 4097\nramdisk 12288 1"),
+    Case("sections p11", 0, "version 2\nkernel 2048 2048\nramdisk 4096 1\nrecovery 6144 0\ndtb 6144 1"),
+    Case("sections archived", 0, "version 2\nkernel 2048 2048\nramdisk 4096 1\nrecovery 8192 0\ndtb 8192 1\n"
+         "retired section present"),
+    Case("sections archived-cut", 1, "refused 26 at 0"),
     Case("sections flat", 1, "refused 21 at 0"),
     Case("slots record fresh 2", 0, "ok"),
     Case("slots record start", 0, "starts a"),
@@ -1630,6 +1639,27 @@ def joined_over_links(tool: Tool) -> None:
     expect(read("p2") == FILES["p2"] and read("p7") == FILES["p7"], "images under other names")
 
 
+# Boot images.
+
+def retired_sections(tool: Tool) -> None:
+    """Archived images are told of as the reference has it: a retired section in text by a last line where one is
+    present, and in the object always by whether one is."""
+    for image in cases_boot.retired_images() + cases_boot.reserved_images():
+        save("image", image)
+        found = boot.locate(image)
+        done, told = tool.run("sections image"), json.loads(tool.run("sections image --json").stdout)
+        if isinstance(found, boot.Refusal):
+            expect_end(done, 1, f"refused {found.number} at 0\n")
+            expect(told["number"] == found.number and not {"sections", "retired"} & set(told), f"{told}")
+            continue
+        lines = [f"version {found.version}"] + [" ".join(map(str, section)) for section in found.sections]
+        lines += ["retired section present"] * found.retired
+        expect(done.returncode == 0 and done.stdout.split("\n") == lines + [""], f"{lines} expected", done)
+        sections = [section._asdict() for section in found.sections]
+        expect(told["version"] == found.version and told["sections"] == sections, f"{sections}, not {told}")
+        expect(told["retired"] is found.retired, f"retired {found.retired}, not {told}")
+
+
 # The slot record.
 
 # An operation, the record before it, what it says, and the record after it.
@@ -1906,6 +1936,7 @@ def same_words(tool: Tool) -> None:
         expect(f"    {usage}  " in readme, f"README.md lacks {usage}")
     for name, text in (("the help", told), ("the man page", man)):
         expect(f"slot record of {len(TRIED)} bytes" in text, f"{name} lacks the length of a slot record")
+        expect("retired section present" in text, f"{name} lacks what is said of a retired section")
     for number, words in statuses:
         expect(f"{number} {words}.".replace("`", "").lower() in man.lower(), f"the man page lacks {words}")
         expect(f"| {number} | {words} |" in readme, f"README.md lacks {words}")
@@ -1958,6 +1989,7 @@ def same_in_json(tool: Tool) -> None:
                   "diff nothing nothing", "diff p6 p2", "diff p2 kinds", "join last next image", "join p7 p8 image",
                   "join p6 p2 image", "join p2 kinds image", "join too-much too-much image",
                   "write flat 8 image", "write flat 12 image", "sections boot", "sections flat",
+                  "sections archived", "sections archived-cut",
                   "slots tried show", "slots odd show", "slots old17 show", "slots old21 show", "slots tried status",
                   "slots miscounted status", "slots tried corrupted a", "slots tried fresh 5", "slots tried fresh 3"):
         text, told = tool.run(words), tool.run(words + " --json")
@@ -2111,6 +2143,7 @@ CHECKS: Tuple[Callable[[Tool], None], ...] = (
     compared_in_svg, compared_at_length, no_memory,
     joined_as_the_reference, joined_in_groups, joins_refused, told_of_geometry, joined_vast, joined_at_length,
     joined_in_little_room, unknown_joined, joined_over_links,
+    retired_sections,
     slot_turns, flags_shown, states_in_words, counts_in_words, wrong_counts, old_records, other_lengths, old_made_new,
     old_of_any_bytes,
     help_and_version, same_words, not_printed, same_in_json, as_the_reference, names_of_any_bytes,

@@ -24,7 +24,9 @@ grep -q "tarpaulark $version" "$root/share/man/man1/tarpaulark.1" || die "the ma
 # active and confirmed, and a corrupted: their bytes, the current slot and the count stand where the header says, the
 # count last, and nothing past the record is touched; with another count it is refused. Two images are written and
 # compared: the runs, of a block and of two, stand where the header says. Joined they are the second, whose blocks are all
-# written, with its length where the header says; a byte less is too short, and nothing past it is touched.
+# written, with its length where the header says; a byte less is too short, and nothing past it is touched. A boot image
+# of version 2 has its sections where the header says, and whether a retired one is present last, with and without one;
+# nothing past the answer is touched, and an input that is too short is refused.
 cat >"$folder/use.c" <<'END_C'
 #include <tarpaulark.h>
 
@@ -99,12 +101,49 @@ static int use_images(void)
         || use_join(images[0], lengths[0][TARPAULARK_LENGTH], images[1], lengths[1][TARPAULARK_LENGTH]);
 }
 
+static int stands(const uint64_t *answer, uint64_t present, uint64_t position, uint64_t size)
+{
+    return answer[TARPAULARK_SECTION_PRESENT] == present && answer[TARPAULARK_SECTION_POSITION] == position
+        && answer[TARPAULARK_SECTION_SIZE] == size;
+}
+
+static int has_sections(const uint64_t *answer, uint64_t retired, uint64_t last)
+{
+    return answer[TARPAULARK_VERSION_AT] == 2 && answer[TARPAULARK_RETIRED_AT] == retired
+        && stands(answer + TARPAULARK_SECTION(TARPAULARK_KERNEL), 1, 2048, 2048)
+        && stands(answer + TARPAULARK_SECTION(TARPAULARK_RAMDISK), 1, 4096, 1)
+        && stands(answer + TARPAULARK_SECTION(TARPAULARK_RECOVERY_IMAGE), 1, last, 0)
+        && stands(answer + TARPAULARK_SECTION(TARPAULARK_DTB), 1, last, 1)
+        && stands(answer + TARPAULARK_SECTION(TARPAULARK_SIGNATURE), 0, 0, 0);
+}
+
+static int use_boot(void)
+{
+    static const uint16_t bytes[][2] = {
+        {9, 8}, {16, 1}, {24, 1}, {37, 8}, {40, 2}, {1644, 1660 % 256}, {1645, 1660 / 256}, {1648, 1},
+    };
+    static uint8_t image[8193] = "ANDROID!";
+    uint64_t answer[TARPAULARK_LOCATE_ANSWER + 1];
+    size_t i;
+
+    for (i = 0; i < sizeof bytes / sizeof bytes[0]; i++)
+        image[bytes[i][0]] = (uint8_t)bytes[i][1];
+    answer[TARPAULARK_LOCATE_ANSWER] = 77;
+    if (tarpaulark_locate(image, sizeof image, answer) != 0 || !has_sections(answer, 1, 8192)
+        || tarpaulark_locate(image, sizeof image - 1, answer) != TARPAULARK_BAD_BOOT_END
+        || answer[TARPAULARK_RETIRED_AT] != 0)
+        return 1;
+    image[24] = 0;
+    return tarpaulark_locate(image, sizeof image, answer) != 0 || !has_sections(answer, 0, 6144)
+        || answer[TARPAULARK_LOCATE_ANSWER] != 77;
+}
+
 int use(void)
 {
     uint64_t answer[TARPAULARK_JUDGE_ANSWER];
 
     return tarpaulark_judge((const uint8_t *)TARPAULARK_VERSION, 5, 0, answer) != TARPAULARK_BAD_LENGTH || use_slots()
-        || use_images();
+        || use_images() || use_boot();
 }
 END_C
 echo 'int use(void); int main(void) { return use(); }' >"$folder/main.c"
@@ -127,8 +166,9 @@ else
     echo "install: g++ is not installed: the header in C++ is left out"
 fi
 
-# Names that the header had when there were two counts are gone: whoever uses one is told so by the compiler.
-for gone in TARPAULARK_WRITTEN TARPAULARK_SKIPPED; do
+# Names that the header had before are gone, those of the two counts, of refusal 28 and of the second section: whoever
+# uses one is told so by the compiler.
+for gone in TARPAULARK_WRITTEN TARPAULARK_SKIPPED TARPAULARK_BAD_BOOT_POSITION TARPAULARK_SECOND; do
     sed "s/TARPAULARK_BAD_LENGTH/$gone/" "$folder/use.c" >"$folder/gone.c"
     ! "$cc" -fsyntax-only -I"$root/include" "$folder/gone.c" 2>/dev/null || die "the header still has $gone"
 done

@@ -205,19 +205,22 @@ stated_size() {
     esac | tr -d ' '
 }
 
-# Each section lies in boot where the tool says, at its file's size, in order.
+# Each section lies in boot where the tool says, at its file's size, in order. Of the second one, which still takes its
+# room, it says only that it is present, and only where its file is not empty.
 same_sections() {
     local names=() name at size want=(version kernel ramdisk)
-    [ "$1" -ge 3 ] || want+=(second)
     [ "$1" != 1 ] && [ "$1" != 2 ] || want+=(recovery)
     [ "$1" != 2 ] || want+=(dtb)
     [ "$1" != 4 ] || want+=(signature)
+    [ "$1" -ge 3 ] || [ ! -s second ] || want+=(retired)
     "$tool" sections boot >said || return 1
     cat said
     while read -r name at size; do
         names+=("$name")
         if [ "$name" = version ]; then
             [ "$at" = "$1" ] || return 1
+        elif [ "$name" = retired ]; then
+            [ "$at $size" = "section present" ] || return 1
         else
             [ "$size" = "$(stat -c %s "$name")" ] || return 1
             cmp -n "$size" -i "$at:0" boot "$name" || return 1

@@ -1,4 +1,4 @@
-"""Locating the sections of a boot image: document 01, "Boot image layout"."""
+"""Locating the sections of a boot image: document 01, "Boot image layout", with 02, CR 10."""
 
 from dataclasses import dataclass
 from typing import List, NamedTuple, Optional, Tuple, Union
@@ -10,7 +10,11 @@ VERSION_AT = 40
 SHORTEST = 44
 
 RECOVERY = "recovery"
-SECTION_NAMES = ("kernel", "ramdisk", "second", RECOVERY, "dtb", "signature")
+
+# The sections that are offered to callers, in order.  TABLE below has a size for each section of
+# a version; one of them that does not stand here is retired: 02, CR 10, "Stop offering the second
+# section to callers".
+OFFERED = ("kernel", "ramdisk", RECOVERY, "dtb", "signature")
 
 
 class Row(NamedTuple):
@@ -51,10 +55,12 @@ class Section(NamedTuple):
 
 @dataclass(frozen=True)
 class Located:
-    """01: "its version and the position and size of each section of that version"."""
+    """01: "its version and the position and size of each section of that version", of those that
+    are offered; and whether a retired section is present, which is all that is said of it."""
 
     version: int
     sections: List[Section]
+    retired: bool
 
 
 @dataclass(frozen=True)
@@ -130,7 +136,9 @@ def section_number(
 
 
 def read_sections(image: bytes, row: Row) -> List[Section]:
-    """The sections of the row's version, from the size fields of the header."""
+    """All sections of the row's version, from the size fields of the header.  A retired one
+    takes its room, and is tested, as the others: 02, CR 10, "accepted as before, with the later
+    sections in the same places", and one "that ends past the input still gets 26"."""
     sizes = [(name, fields.read(image, at, 4)) for name, at in row.size_at]
     return layout(page_size(image, row), sizes)
 
@@ -140,6 +148,16 @@ def read_recovery_offset(image: bytes, row: Row) -> int:
     if row.recovery_offset_at is None:
         return 0
     return fields.read(image, row.recovery_offset_at, 8)
+
+
+def offered(sections: List[Section]) -> List[Section]:
+    """The sections that callers get."""
+    return [section for section in sections if section.name in OFFERED]
+
+
+def has_retired(sections: List[Section]) -> bool:
+    """02, CR 10: "exactly when its size is not 0, that a retired section is present"."""
+    return any(section.size != 0 for section in sections if section.name not in OFFERED)
 
 
 def locate(image: bytes) -> Union[Located, Refusal]:
@@ -156,4 +174,4 @@ def locate(image: bytes) -> Union[Located, Refusal]:
     number = section_number(sections, read_recovery_offset(image, row), len(image))
     if number != 0:
         return Refusal(number)
-    return Located(version, sections)
+    return Located(version, offered(sections), has_retired(sections))

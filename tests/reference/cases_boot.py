@@ -26,10 +26,10 @@ BASE_LENGTH = 12400
 
 
 def section_values(located: boot.Located) -> Tuple[int, ...]:
-    """For each of the six sections: present, position, size; zeros if absent."""
+    """For each of the five sections that are offered: present, position, size; zeros if absent."""
     found = {section.name: section for section in located.sections}
     triples: List[int] = []
-    for name in boot.SECTION_NAMES:
+    for name in boot.OFFERED:
         if name in found:
             triples += [1, found[name].position, found[name].size]
         else:
@@ -38,11 +38,11 @@ def section_values(located: boot.Located) -> Tuple[int, ...]:
 
 
 def values(image: bytes) -> Tuple[int, ...]:
-    """Number and version, then the sections."""
+    """Number and version, then the sections, then whether a retired one is present."""
     answer = boot.locate(image)
     if isinstance(answer, boot.Refusal):
-        return (answer.number, 0) + (0,) * (3 * len(boot.SECTION_NAMES))
-    return (0, answer.version) + section_values(answer)
+        return (answer.number, 0) + (0,) * (3 * len(boot.OFFERED) + 1)
+    return (0, answer.version) + section_values(answer) + (int(answer.retired),)
 
 
 def example_images() -> List[bytes]:
@@ -62,10 +62,8 @@ def base_image(version: int) -> bytes:
 
 def cut_lengths(version: int) -> List[int]:
     """Every length at which a test of the base image changes its answer, and near."""
-    located = boot.locate(base_image(version))
-    assert isinstance(located, boot.Located)
     edges = {0, 8, 40, 44, build.HEADER_LENGTHS[version], 2048, 4096}
-    for section in located.sections:
+    for section in boot.read_sections(base_image(version), boot.TABLE[version]):
         edges |= {section.position, section.position + section.size}
     near = {edge + d for edge in edges for d in (-1, 0, 1)}
     return sorted(length for length in near if 0 <= length <= BASE_LENGTH)
@@ -136,14 +134,46 @@ def recovery_images() -> List[bytes]:
     return images
 
 
+def recovery_position(page: int, *sizes: int) -> int:
+    """Where the recovery section begins, after sections of these sizes."""
+    return page + sum(boot.rounded_up(size, page) for size in sizes)
+
+
+def retired_images() -> List[bytes]:
+    """P11 with a second section; then one that is empty, of a byte or two, around one page long,
+    or as long as can be, before sections that are not empty.  The recovery offset is right, or as
+    if the second section took no room; there are just enough bytes, where they are few, and one
+    less.  Each image stands once: version 0 has no offset, and both are right where it is empty."""
+    images = [build.boot_image(2, 8193, kernel=2048, ramdisk=1, second=1, dtb=1)]
+    for version, second in itertools.product(range(3), (0, 1, 2, 2047, 2048, 2049, LARGE)):
+        sizes = {name: BASE_SIZES[name] for name in SECTIONS[version]}
+        sizes["second"] = second
+        before = (sizes["kernel"], sizes["ramdisk"])
+        for offset in (recovery_position(2048, *before, second), recovery_position(2048, *before)):
+            image = build.boot_image(version, 16384, recovery_offset=offset, **sizes)
+            sections = boot.read_sections(image, boot.TABLE[version])
+            end = max(section.position + section.size for section in sections if section.size != 0)
+            images += [image[:end], image[:end - 1]] if end <= len(image) else [image]
+    return list(dict.fromkeys(images))
+
+
+def reserved_images() -> List[bytes]:
+    """Versions 3 and 4 with bytes in the reserved field where older versions have the size of
+    the second section."""
+    return [
+        build.with_bytes(image, 24, field.to_bytes(4, "little"))
+        for version in (3, 4) for image in (base_image(version), base_image(version)[:9000])
+        for field in (1, 2049, LARGE)
+    ]
+
+
 def wide_images() -> List[bytes]:
     """Positions that pass 2^32, the recovery offset right or right in 32 bits."""
     images = []
     large = (LARGE, LARGE - 2047, LARGE - 2048, 2**31)
     for version, kernel, second in itertools.product((1, 2), large, (0, LARGE)):
         sizes: Dict[str, int] = dict(kernel=kernel, ramdisk=kernel, second=second)
-        page_end = [boot.rounded_up(size, 2048) for size in (kernel, kernel, second)]
-        position = 2048 + sum(page_end)
+        position = recovery_position(2048, kernel, kernel, second)
         for offset in (position, position % 2**32, position ^ 2**32):
             images.append(
                 build.boot_image(version, 9000, recovery=1, recovery_offset=offset, **sizes)
@@ -179,8 +209,7 @@ def random_image(rng: random.Random) -> bytes:
     page = pick(rng, (2048, 4096, 8192, 16384))
     sizes = {name: pick(rng, (0, 1, below(rng, 9000))) for name in SECTIONS[version]}
     before = [sizes.get(name, 0) for name in ("kernel", "ramdisk", "second")]
-    offset = page + sum(boot.rounded_up(size, page) for size in before)
-    offset += pick(rng, (0, 0, 0, page))
+    offset = recovery_position(page, *before) + pick(rng, (0, 0, 0, page))
     length = 1600 + below(rng, 60000)
     return build.boot_image(version, length, page=page, recovery_offset=offset, **sizes)
 
@@ -189,6 +218,6 @@ def group(rng: random.Random) -> Group:
     """All cases of the group."""
     images = example_images() + cut_images() + damaged_images() + page_images()
     images += single_section_images() + header_images() + recovery_images()
-    images += wide_images() + order_images()
+    images += retired_images() + reserved_images() + wide_images() + order_images()
     images += [random_image(rng) for _ in range(150)]
     return Group(b"".join(map(patched_image, images)), [values(image) for image in images])

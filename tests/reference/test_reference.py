@@ -655,28 +655,82 @@ class TestBoot(unittest.TestCase):
     def check(self, image: bytes, number: int) -> None:
         self.assertEqual(boot.locate(image), boot.Refusal(number))
 
-    def positions(self, image: bytes) -> List[int]:
+    def located(self, image: bytes) -> boot.Located:
         located = boot.locate(image)
         assert isinstance(located, boot.Located)
-        return [section.position for section in located.sections]
+        return located
+
+    def positions(self, image: bytes) -> List[int]:
+        return [section.position for section in self.located(image).sections]
 
     def test_p10(self) -> None:
         image = build.boot_image(3, 12289, kernel=4097, ramdisk=1)
         sections = [boot.Section("kernel", 4096, 4097), boot.Section("ramdisk", 12288, 1)]
-        self.assertEqual(boot.locate(image), boot.Located(3, sections))
+        self.assertEqual(boot.locate(image), boot.Located(3, sections, False))
         self.check(image[:12288], 26)
 
-    def test_p11(self) -> None:
-        image = build.boot_image(2, 6145, page=2048, kernel=2048, ramdisk=1, dtb=1)
+    def check_p11(self, second: int, after: int) -> None:
+        """P11, or with a second section of a size: what comes after it stands at a position, and
+        all that is said of it is whether it is present."""
+        image = build.boot_image(2, after + 1, kernel=2048, ramdisk=1, second=second, dtb=1)
         sections = [
             boot.Section("kernel", 2048, 2048),
             boot.Section("ramdisk", 4096, 1),
-            boot.Section("second", 6144, 0),
-            boot.Section("recovery", 6144, 0),
-            boot.Section("dtb", 6144, 1),
+            boot.Section("recovery", after, 0),
+            boot.Section("dtb", after, 1),
         ]
-        self.assertEqual(boot.locate(image), boot.Located(2, sections))
-        self.check(image[:6144], 26)
+        self.assertEqual(boot.locate(image), boot.Located(2, sections, second != 0))
+        self.check(image[:after], 26)
+
+    def test_p11(self) -> None:
+        self.check_p11(0, 6144)
+
+    def test_retired_section(self) -> None:
+        self.check_p11(1, 8192)
+        self.check_p11(2048, 8192)
+        self.check_p11(2049, 10240)
+
+    def test_retired_section_takes_its_room(self) -> None:
+        for version, second in itertools.product((1, 2), (0, 1, 2047, 2048, 2049, 9000)):
+            room = -(-second // 2048) * 2048
+            sizes = dict(kernel=2048, ramdisk=1, second=second, recovery=3)
+            right = build.boot_image(version, 6147 + room, recovery_offset=6144 + room, **sizes)
+            located = self.located(right)
+            self.assertEqual(located.retired, second != 0)
+            self.assertEqual(located.sections[2], boot.Section("recovery", 6144 + room, 3))
+            if second != 0:
+                self.check(build.with_bytes(right, 1636, (6144).to_bytes(8, "little")), 27)
+
+    def test_retired_section_past_the_input(self) -> None:
+        for version in range(3):
+            image = build.boot_image(version, 6146, kernel=2048, ramdisk=1, second=2)
+            self.assertTrue(self.located(image).retired)
+            self.check(image[:6145], 26)
+            self.check(build.with_bytes(image, 24, b"\xFF" * 4), 26)
+            self.assertFalse(self.located(build.with_bytes(image[:4097], 24, bytes(4))).retired)
+
+    def test_no_retired_section_in_new_versions(self) -> None:
+        """Where older versions have the size of the second section, versions 3 and 4 have a
+        reserved field."""
+        for version, field in itertools.product((3, 4), (1, 4096, 2**31, 2**32 - 1)):
+            image = build.boot_image(version, 8197, kernel=9, ramdisk=5, filler=0xEE)
+            other = build.with_bytes(image, 24, field.to_bytes(4, "little"))
+            self.assertFalse(self.located(other).retired)
+            self.assertEqual(self.located(other), self.located(image))
+            self.check(other[:8196], 26)
+
+    def test_offered_sections(self) -> None:
+        """Those of 01's table, but for the second, in every version, empty or not."""
+        names = (
+            ["kernel", "ramdisk"],
+            ["kernel", "ramdisk", "recovery"],
+            ["kernel", "ramdisk", "recovery", "dtb"],
+            ["kernel", "ramdisk"],
+            ["kernel", "ramdisk", "signature"],
+        )
+        for version, second in itertools.product(range(5), (0, 1)):
+            located = self.located(build.boot_image(version, 9000, second=second))
+            self.assertEqual([section.name for section in located.sections], names[version])
 
     def test_lengths(self) -> None:
         for version, length in enumerate((1632, 1648, 1660, 1580, 1584)):
@@ -706,11 +760,11 @@ class TestBoot(unittest.TestCase):
                 self.check(build.boot_image(version, 2000, page=page), 25)
             for page in (2048, 4096, 8192, 16384):
                 image = build.boot_image(version, 2000, page=page)
-                self.assertEqual(self.positions(image), [page] * (version + 3))
+                self.assertEqual(self.positions(image), [page] * (version + 2))
 
     def test_recovery_offset(self) -> None:
         image = build.boot_image(1, 10000, kernel=5, recovery=7, recovery_offset=4096)
-        self.assertEqual(self.positions(image), [2048, 4096, 4096, 4096])
+        self.assertEqual(self.positions(image), [2048, 4096, 4096])
         for at in range(1636, 1644):
             self.check(build.with_bytes(image, at, bytes([image[at] ^ 1])), 27)
         unread = build.boot_image(1, 10000, kernel=5, recovery_offset=9)

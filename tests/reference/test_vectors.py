@@ -8,6 +8,7 @@ import unittest
 import unittest.mock
 from typing import Any, Callable, Dict, Iterator, List, Sequence, Set, Tuple
 
+import boot
 import build
 import cases_boot
 import cases_common
@@ -42,6 +43,9 @@ RECORD_SLOT = 5
 RECORD_CURRENT = 20
 RECORD_STARTABLE = 21
 SLOT_TRIES = 4
+
+# Where versions 0 to 2 of a boot image have the size of the second section.
+SECOND_AT = 24
 
 # How an operation steps the count, by the flags unbootable and corrupted of the slot that
 # it is about: the current one for start and confirm.
@@ -147,11 +151,16 @@ def slot_sum_lines(data: bytes) -> Lines:
         yield (state ^ crc.ALL_ONES,)
 
 
-def boot_lines(data: bytes) -> Lines:
+def boot_images(data: bytes) -> Iterator[bytes]:
     at = 0
     while at < len(data):
         image, at = cases_common.image_from_patches(data, at)
         assert len(image) <= LARGEST_IMAGE
+        yield image
+
+
+def boot_lines(data: bytes) -> Lines:
+    for image in boot_images(data):
         yield cases_boot.values(image)
 
 
@@ -462,6 +471,42 @@ WRONG_RULES: Tuple[Tuple[str, Callable[..., Any]], ...] = (
 )
 
 
+right_layout = boot.layout
+right_number = boot.section_number
+right_sections = boot.read_sections
+
+
+def without_room(page: int, sizes: List[Tuple[str, int]]) -> List[boot.Section]:
+    """A layout in which the second section takes no room."""
+    sections = right_layout(page, [(name, size * (name != "second")) for name, size in sizes])
+    return [section._replace(size=size) for section, (_, size) in zip(sections, sizes)]
+
+
+def in_every_version(image: bytes, row: boot.Row) -> List[boot.Section]:
+    """A second section in versions 3 and 4 too, where their reserved field is not 0."""
+    sections = right_sections(image, row)
+    if row.page_size_at is not None:
+        return sections
+    return sections + [boot.Section("second", 0, min(1, fields.read(image, SECOND_AT, 4)))]
+
+
+def second_size(sections: List[boot.Section]) -> int:
+    """The size of the second section, 0 where there is none."""
+    return sum(section.size for section in sections if section.name == "second")
+
+
+WRONG_BOOT_RULES: Tuple[Tuple[str, Callable[..., Any]], ...] = (
+    ("layout", without_room),
+    ("read_sections", in_every_version),
+    ("section_number", lambda sections, *rest: right_number(boot.offered(sections), *rest)),
+    ("has_retired", lambda sections: False),
+    ("has_retired", lambda sections: len(sections) != len(boot.offered(sections))),
+    ("has_retired", lambda sections: sections[2:] != [] and sections[2].size != 0),
+    ("has_retired", lambda sections: second_size(sections) > 1),
+    ("has_retired", lambda sections: second_size(sections) % 256 != 0),
+)
+
+
 class TestVectors(unittest.TestCase):
     names: List[str]
     made: Dict[str, bytes]
@@ -511,6 +556,32 @@ class TestVectors(unittest.TestCase):
                 and len({0, verdict.written, verdict.dont_care, verdict.unknown}) == 4
             ]
             self.assertGreater(len(found), 100, name)
+
+    def test_retired_sections(self) -> None:
+        """Each version from 0 to 2 with a second section of each size, accepted and refused; told
+        where it is not empty, and never in versions 3 and 4, which have bytes there too."""
+        data = self.made[os.path.join("data", "boot.bin")]
+        found: Set[Tuple[int, int, int, int]] = set()
+        for image, (number, *_, retired) in zip(boot_images(data), boot_lines(data)):
+            version, size = (fields.read(image, at, 4) for at in (boot.VERSION_AT, SECOND_AT))
+            if version in range(5) and number in (0, 26, 27):
+                found.add((version, number, size, retired))
+                self.assertEqual(retired, number == 0 and version < 3 and size != 0)
+        for version, size in itertools.product(range(3), (0, 1, 2, 2047, 2048, 2049)):
+            self.assertIn((version, 0, size, int(size != 0)), found)
+            self.assertIn((version, 26, size, 0), found)
+        for version, size in itertools.product((1, 2), (1, 2, 2047, 2048, 2049, 2**32 - 1)):
+            self.assertIn((version, 27, size, 0), found)
+        for version, size in itertools.product((3, 4), (1, 2049, 2**32 - 1)):
+            self.assertIn((version, 0, size, 0), found)
+
+    def test_wrong_boot_rules_are_seen(self) -> None:
+        """Each wrong rule for the second section changes a line of `boot`."""
+        data = self.made[os.path.join("data", "boot.bin")]
+        lines = list(boot_lines(data))
+        for i, (name, wrong) in enumerate(WRONG_BOOT_RULES):
+            with self.subTest(i), unittest.mock.patch.object(boot, name, wrong):
+                self.assertNotEqual(list(boot_lines(data)), lines)
 
     def slot_answers(self) -> List[Tuple[cases_slots.Case, Tuple[int, ...]]]:
         """The cases of `slots` with their values."""

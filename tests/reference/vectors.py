@@ -69,9 +69,11 @@ image:   len u32 (at most 65,536), patches u32, then for each patch
 
 boot     case:  image
          values: NUMBER of the refusal or 0; VERSION, 0 when refused; then for
-                kernel, ramdisk, second, recovery, dtb and signature PRESENT
-                POSITION SIZE: 1 and its place for a section of the version,
-                empty or not; 0 0 0 for all others and when refused.
+                kernel, ramdisk, recovery, dtb and signature PRESENT POSITION
+                SIZE: 1 and its place for a section of the version, empty or
+                not; 0 0 0 for all others and when refused; then RETIRED, 1 if
+                the image has a second section that is not empty, which takes
+                its room; 0 if not and when refused.
 
 sparse   case:  partition length u64, image
          values: NUMBER of the refusal or 0; its PLACE, or 0; blocks WRITTEN,

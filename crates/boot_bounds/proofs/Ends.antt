@@ -7,7 +7,8 @@ use native.Mathlib.Omega.{arith}
 use lib.Dec.{ltb}
 use borrow.Author.Tests.{ltb-true, ltb-false, lt-ltb, le-ltb, eq-eqb, ne-eqb}
 use Rattle.boot_rules.specs.declared.Section.{Section}
-use Rattle.boot_rules.specs.Tests.{anyOf, overruns}
+use Rattle.boot_rules.specs.Sections.{anyOf}
+use Rattle.boot_rules.specs.Tests.{overruns}
 
 module _ (n : ℕ) (x : Section) where
   pub ends-empty : x .size ≡ 0 → false ≡ overruns n x

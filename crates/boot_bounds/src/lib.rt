@@ -1,10 +1,10 @@
 // Whether the sections of a boot image lie where they must: the recovery section where its offset field says, and every
 // section inside the image.
-use boot_rules::Layout;
+use boot_rules::Rooms;
 use boot_rules::Section;
 ghost use mathlib.Core.Path.{_≡_};
-ghost use Rattle.boot_rules.specs.Sections.{sectionsIn};
-ghost use Rattle.boot_rules.specs.Tests.{anyOf, misplaced, overruns};
+ghost use Rattle.boot_rules.specs.Sections.{anyOf, roomsIn};
+ghost use Rattle.boot_rules.specs.Tests.{misplaced, overruns};
 
 // Whether the recovery section is not empty and its offset field is not its position.
 pub fn misplaced(offset: u64, x: Section) -> bool
@@ -27,14 +27,14 @@ fn overrun(n: u64, x: Section) -> bool
     n - size < x.position
 }
 
-// Whether some section is not empty and ends past `n` bytes.
-pub fn any_overrun(n: u64, l: Layout) -> bool
-    ensures { λ r. ⌜ r ≡ anyOf (overruns n) (sectionsIn l) ⌝ }
+// Whether some section, retired or not, is not empty and ends past `n` bytes.
+pub fn any_overrun(n: u64, rooms: Rooms) -> bool
+    ensures { λ r. ⌜ r ≡ anyOf (overruns n) (roomsIn rooms) ⌝ }
 {
-    overrun(n, l.kernel)
-        | overrun(n, l.ramdisk)
-        | overrun(n, l.second)
-        | overrun(n, l.recovery)
-        | overrun(n, l.dtb)
-        | overrun(n, l.signature)
+    overrun(n, rooms.kernel)
+        | overrun(n, rooms.ramdisk)
+        | overrun(n, rooms.second)
+        | overrun(n, rooms.recovery)
+        | overrun(n, rooms.dtb)
+        | overrun(n, rooms.signature)
 }

@@ -1,10 +1,10 @@
--- Laws of laying sections out: one step, as the code makes it, and all six, each from where the one before it ends.
+-- Laws of laying sections out: one step, as the code makes it, and three of them, each from where the one before it ends.
 -- Assumes nothing.
 use mathlib.Core.Path.{_≡_, sym, ap, _∙_, subst}
 use mathlib.Core.Bool.{true}
 use mathlib.Core.List.{List}
 use Prim.Native.Nat.{ℕ, suc, _+_, _≤_, _<_}
-use lib.Dec.{lit<}
+use native.Mathlib.Omega.{arith}
 use lib.ListN.{getD}
 use borrow.Author.Tests.{lt-ltb, le-ltb}
 use Rattle.boot_rules.specs.declared.Field.{Field}
@@ -12,10 +12,10 @@ use Rattle.boot_rules.specs.declared.Row.{Row}
 use Rattle.boot_image.specs.declared.sections.Step.{Step}
 use Rattle.boot_rules.specs.Pages.{isPage, roundUp}
 use Rattle.boot_rules.specs.Positions.{positionBound}
-use Rattle.boot_rules.specs.Sections.{versionOf, rowIn, pageIn, noSection, sectionAt, startsOf, sectionsOf, layoutOf}
+use Rattle.boot_rules.specs.Sections.{versionOf, rowIn, pageIn, noSection, sectionAt, startsOf, sectionsOf}
 use Rattle.boot_rules.specs.Table.{has, number, lacking, sizeFields}
 use Rattle.boot_image.specs.Steps.{Ready, Stepped}
-use Rattle.boot_rules.proofs.Placing.{start-first, start-next, section-at}
+use Rattle.boot_rules.proofs.Placing.{start-next, section-at}
 use Rattle.boot_rules.proofs.Positions.{near}
 use Rattle.boot_rules.proofs.Widths.{numbers}
 use Rattle.fields_rules.specs.Number.{Bytes}
@@ -61,57 +61,34 @@ module _ {s : List ℕ} {k : ℕ} {r : Row} (known : Known s k r) where
           ∙ ap (λ (q : Row). sectionAt (has (getD (sizeFields q) i lacking)) (getD (startsOf s) i 0) (number s (getD (sizeFields q) i lacking))) (known .row)
           ∙ section-at s i l
 
-  -- the six steps from the first page on
-  first-start : k ≡ getD (startsOf s) 0 0
-  first-start = known .page ∙ start-first s
+  -- three steps, one after the other, from section i on
+  module _ (i x : ℕ) (e : x ≡ getD (startsOf s) i 0) (l : suc (suc i) < 6) where
+    pub ready-0 : Ready k (getD (sizeFields r) i lacking) x
+    ready-0 = ready i x e
 
-  pub ready-first : Ready k (getD (sizeFields r) 0 lacking) k
-  ready-first = ready 0 k first-start
+    module _ (a : Step) (ha : Stepped s k (getD (sizeFields r) i lacking) x a) where
+      start-1 : a .next ≡ getD (startsOf s) (suc i) 0
+      start-1 = on i x e a ha (omega arith)
 
-  module _ (a : Step) (ha : Stepped s k (getD (sizeFields r) 0 lacking) k a) where
-    start-1 : a .next ≡ getD (startsOf s) 1 0
-    start-1 = on 0 k first-start a ha (lit< tt)
+      pub here-0 : a .section ≡ getD (sectionsOf s) i noSection
+      here-0 = here i x e a ha (omega arith)
 
-    pub ready-1 : Ready k (getD (sizeFields r) 1 lacking) (a .next)
-    ready-1 = ready 1 (a .next) start-1
+      pub ready-1 : Ready k (getD (sizeFields r) (suc i) lacking) (a .next)
+      ready-1 = ready (suc i) (a .next) start-1
 
-    module _ (b : Step) (hb : Stepped s k (getD (sizeFields r) 1 lacking) (a .next) b) where
-      start-2 : b .next ≡ getD (startsOf s) 2 0
-      start-2 = on 1 (a .next) start-1 b hb (lit< tt)
+      module _ (b : Step) (hb : Stepped s k (getD (sizeFields r) (suc i) lacking) (a .next) b) where
+        start-2 : b .next ≡ getD (startsOf s) (suc (suc i)) 0
+        start-2 = on (suc i) (a .next) start-1 b hb l
 
-      pub ready-2 : Ready k (getD (sizeFields r) 2 lacking) (b .next)
-      ready-2 = ready 2 (b .next) start-2
+        pub here-1 : b .section ≡ getD (sectionsOf s) (suc i) noSection
+        here-1 = here (suc i) (a .next) start-1 b hb (omega arith)
 
-      module _ (c : Step) (hc : Stepped s k (getD (sizeFields r) 2 lacking) (b .next) c) where
-        start-3 : c .next ≡ getD (startsOf s) 3 0
-        start-3 = on 2 (b .next) start-2 c hc (lit< tt)
+        pub ready-2 : Ready k (getD (sizeFields r) (suc (suc i)) lacking) (b .next)
+        ready-2 = ready (suc (suc i)) (b .next) start-2
 
-        pub ready-3 : Ready k (getD (sizeFields r) 3 lacking) (c .next)
-        ready-3 = ready 3 (c .next) start-3
+        module _ (c : Step) (hc : Stepped s k (getD (sizeFields r) (suc (suc i)) lacking) (b .next) c) where
+          pub here-2 : c .section ≡ getD (sectionsOf s) (suc (suc i)) noSection
+          here-2 = here (suc (suc i)) (b .next) start-2 c hc l
 
-        module _ (d : Step) (hd : Stepped s k (getD (sizeFields r) 3 lacking) (c .next) d) where
-          start-4 : d .next ≡ getD (startsOf s) 4 0
-          start-4 = on 3 (c .next) start-3 d hd (lit< tt)
-
-          pub ready-4 : Ready k (getD (sizeFields r) 4 lacking) (d .next)
-          ready-4 = ready 4 (d .next) start-4
-
-          module _ (e : Step) (he : Stepped s k (getD (sizeFields r) 4 lacking) (d .next) e) where
-            start-5 : e .next ≡ getD (startsOf s) 5 0
-            start-5 = on 4 (d .next) start-4 e he (lit< tt)
-
-            pub ready-5 : Ready k (getD (sizeFields r) 5 lacking) (e .next)
-            ready-5 = ready 5 (e .next) start-5
-
-            module _ (g : Step) (hg : Stepped s k (getD (sizeFields r) 5 lacking) (e .next) g) (v : ℕ) (ve : v ≡ versionOf s) where
-              pub laid : record { version = v; kernel = a .section; ramdisk = b .section; second = c .section; recovery = d .section; dtb = e .section; signature = g .section } ≡ layoutOf (versionOf s) (sectionsOf s)
-              laid =
-                  rw (
-                    ve,
-                    here 0 k first-start a ha (lit< tt),
-                    here 1 (a .next) start-1 b hb (lit< tt),
-                    here 2 (b .next) start-2 c hc (lit< tt),
-                    here 3 (c .next) start-3 d hd (lit< tt),
-                    here 4 (d .next) start-4 e he (lit< tt),
-                    here 5 (e .next) start-5 g hg (lit< tt),
-                  )
+          pub start-3 : suc (suc (suc i)) < 6 → c .next ≡ getD (startsOf s) (suc (suc (suc i))) 0
+          start-3 m = on (suc (suc i)) (b .next) start-2 c hc m

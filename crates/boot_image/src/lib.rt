@@ -1,6 +1,6 @@
-// The sections of an Android boot image, header versions 0 to 4: where each begins and how long it
-// is, or the number of the first refusal that applies. The sections are laid out one after another
-// (sections.rt), each position rounded up to a page by shifts (pages.rt).
+// The sections of an Android boot image, header versions 0 to 4: where each that is offered begins and how long it is,
+// or the number of the first refusal that applies. The sections are laid out one after another (sections.rt), each
+// position rounded up to a page by shifts (pages.rt).
 mod pages;
 mod sections;
 
@@ -8,6 +8,7 @@ use boot_bounds::any_overrun;
 use boot_bounds::misplaced;
 use boot_header::offset_in;
 use boot_header::tests::header_refusal;
+use boot_offer::offer;
 use boot_rules::Located;
 use sections::lay;
 ghost use mathlib.Core.Path.{_≡_};
@@ -21,12 +22,12 @@ pub fn locate(image: &[u8]) -> Located
     if 0 < refusal {
         return Located::Refused(refusal);
     }
-    let layout = lay(image);
-    if misplaced(offset_in(image), layout.recovery) {
+    let rooms = lay(image);
+    if misplaced(offset_in(image), rooms.recovery) {
         return Located::Refused(27);
     }
-    if any_overrun(image.len() as u64, layout) {
+    if any_overrun(image.len() as u64, rooms) {
         return Located::Refused(26);
     }
-    Located::Found(layout)
+    Located::Found(offer(fields_read::read32(image, 40), rooms))
 }

@@ -14,8 +14,8 @@ use Rattle.boot_rules.specs.declared.Layout.{Layout}
 use Rattle.boot_rules.specs.declared.Located.{Located}
 use Rattle.boot_rules.specs.declared.Located.the-variants.{Found, Refused}
 use Rattle.boot_rules.specs.Pages.{isPage}
-use Rattle.boot_rules.specs.Sections.{versionOf, pageIn, sectionsOf, layoutOf}
-use Rattle.boot_rules.specs.Tests.{anyOf, overruns, headTests, sectionTests, answer, answerOf, RefusalNumbers, NumbersTo27}
+use Rattle.boot_rules.specs.Sections.{versionOf, pageIn, sectionsOf, anyOf, layoutOf}
+use Rattle.boot_rules.specs.Tests.{overruns, headTests, sectionTests, answer, answerOf, RefusalNumbers, NumbersTo27}
 use Rattle.boot_rules.proofs.Tests.{head-page, sections-end}
 
 -- the case of the enum that an answer is

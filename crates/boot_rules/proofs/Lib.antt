@@ -6,4 +6,5 @@ pub mod Placing
 pub mod Widths
 pub mod Tests
 pub mod Answers
+pub mod Offered
 pub mod Sound

@@ -8,7 +8,7 @@ use lib.ListN.{getD, length}
 use Rattle.boot_rules.specs.declared.Field.{Field}
 use Rattle.boot_rules.specs.declared.Section.{Section}
 use Rattle.boot_rules.specs.Pages.{roundUp}
-use Rattle.boot_rules.specs.Sections.{versionOf, rowIn, pageIn, noSection, sectionAt, starts, startsOf, place, sectionsOf, layoutOf, sectionsIn}
+use Rattle.boot_rules.specs.Sections.{rowIn, pageIn, noSection, sectionAt, starts, startsOf, place, sectionsOf}
 use Rattle.boot_rules.specs.Table.{has, number, lacking, sizeFields}
 
 -- the sections of these size fields, the first of them at a position
@@ -41,7 +41,7 @@ module _ (s : List ℕ) where
   unfolding startsOf sectionsOf
   section-at i l = at-start s (pageIn s) (sizeFields (rowIn s)) (pageIn s) i l
 
-  -- a layout holds them all
-  pub sections-laid : sectionsIn (layoutOf (versionOf s) (sectionsOf s)) ≡ sectionsOf s
+  -- there are six
+  pub sections-six : getD (sectionsOf s) 0 noSection ∷ getD (sectionsOf s) 1 noSection ∷ getD (sectionsOf s) 2 noSection ∷ getD (sectionsOf s) 3 noSection ∷ getD (sectionsOf s) 4 noSection ∷ getD (sectionsOf s) 5 noSection ∷ [] ≡ sectionsOf s
   unfolding startsOf sectionsOf
-  sections-laid = refl
+  sections-six = refl

@@ -1,24 +1,25 @@
 -- The sections of an accepted image do not overlap, lie inside the input, begin at multiples of the page and stand in
 -- their order: one proof over the list of size fields. Assumes nothing.
-use mathlib.Core.Path.{_≡_, refl, sym, ap, _∙_, subst}
+use mathlib.Core.Path.{_≡_, refl, subst}
 use mathlib.Core.Bool.{Bool, true, false}
 use mathlib.Core.List.{List, [], _∷_}
 use Prim.Native.Nat.{ℕ, zero, suc, _+_, _%_, _≤_, _<_}
 use native.Mathlib.Nat.{le-of-suc-le-suc, le-refl, zero-mod, mod-self}
 use native.Mathlib.Omega.{arith}
+use lib.Dec.{lit<}
 use lib.ListN.{getD, length}
 use borrow.Author.Tests.{ltb-false, ne-eqb}
 use Rattle.boot_rules.specs.declared.Layout.{Layout}
 use Rattle.boot_rules.specs.declared.Section.{Section}
 use Rattle.boot_rules.specs.declared.Field.{Field}
 use Rattle.boot_rules.specs.Pages.{roundUp}
-use Rattle.boot_rules.specs.Sections.{rowIn, pageIn, noSection, sectionAt, startsOf, sectionsOf, sectionsIn}
-use Rattle.boot_rules.specs.Sound.{SoundSections, Sound}
+use Rattle.boot_rules.specs.Sections.{versionOf, rowIn, pageIn, noSection, sectionAt, startsOf, sectionsOf, anyOf, layoutOf, retiredOf, sectionsIn}
+use Rattle.boot_rules.specs.Sound.{Holds, SoundSections, SoundLayout, Sound}
 use Rattle.boot_rules.specs.Table.{has, number, sizeFields, Within}
-use Rattle.boot_rules.specs.Tests.{anyOf, overruns}
+use Rattle.boot_rules.specs.Tests.{overruns}
 use Rattle.rules.proofs.Tests.{or-left, or-right}
 use Rattle.boot_rules.proofs.Answers.{Passed, passed}
-use Rattle.boot_rules.proofs.Placing.{laid, sections-laid}
+use Rattle.boot_rules.proofs.Placing.{laid}
 use Rattle.boot_rules.proofs.Rounding.{page, round-up, round-whole}
 
 present-there : (here : Bool) (p n : ℕ) → sectionAt here p n .present ≡ true → p ≤ sectionAt here p n .position
@@ -103,8 +104,53 @@ of-tests s l a =
       apart = λ i j k o. apart-of (getD (sectionsOf s) i noSection) (getD (sectionsOf s) j noSection) k (order-there s n h fs n i j o) (absent-all s n fs n j);
     }
 
--- the sections of every accepted image are sound
+-- where the room of an offered section stands among all rooms: the third is the retired one's
+room : ℕ → ℕ
+room zero = 0
+room (suc zero) = 1
+room (suc (suc i)) = suc (suc (suc i))
+
+room-order : (i j : ℕ) → i < j → room i < room j
+unfolding room
+room-order i zero l = absurd (omega arith)
+room-order zero (suc zero) l = omega arith
+room-order (suc i) (suc zero) l = absurd (omega arith)
+room-order zero (suc (suc j)) l = omega arith
+room-order (suc zero) (suc (suc j)) l = omega arith
+room-order (suc (suc i)) (suc (suc j)) l = omega arith
+
+-- sections that are rooms in their order are sound as the rooms are
+thinned : {n x : ℕ} (xs ys : List Section) → SoundSections n x xs → ((i : ℕ) → getD xs (room i) noSection ≡ getD ys i noSection) → SoundSections n x ys
+thinned {n} {x} xs ys a h =
+    record {
+      inside = λ i. subst (λ (y : Section). 0 < y .size → y .position + y .size ≤ n) (h i) (a .inside (room i));
+      whole = λ i. subst (λ (y : Section). y .position % x ≡ 0) (h i) (a .whole (room i));
+      begins = λ i. subst (λ (y : Section). y .present ≡ true → x ≤ y .position) (h i) (a .begins (room i));
+      order = λ i j o. subst (λ (y : Section). getD ys j noSection .present ≡ true → y .position + y .size ≤ getD ys j noSection .position) (h i)
+          (subst (λ (z : Section). z .present ≡ true → getD xs (room i) noSection .position + getD xs (room i) noSection .size ≤ z .position) (h j) (a .order (room i) (room j) (room-order i j o)));
+      apart = λ i j k o. subst (λ (y : Section). Holds y k → Holds (getD ys j noSection) k → ⊥) (h i)
+          (subst (λ (z : Section). Holds (getD xs (room i) noSection) k → Holds z k → ⊥) (h j) (a .apart (room i) (room j) k (room-order i j o)));
+    }
+
+module _ {n x : ℕ} (a b c d e f : Section) (all : SoundSections n x (a ∷ b ∷ c ∷ d ∷ e ∷ f ∷ [])) where
+  offered-rooms : (v i : ℕ) → getD (a ∷ b ∷ c ∷ d ∷ e ∷ f ∷ []) (room i) noSection ≡ getD (sectionsIn (layoutOf v (a ∷ b ∷ c ∷ d ∷ e ∷ f ∷ []))) i noSection
+  unfolding room
+  offered-rooms v zero = refl
+  offered-rooms v (suc zero) = refl
+  offered-rooms v (suc (suc i)) = refl
+
+  spared-there : (v i j k : ℕ) → Holds (getD (sectionsIn (layoutOf v (a ∷ b ∷ c ∷ d ∷ e ∷ f ∷ []))) i noSection) k → Holds (getD (retiredOf (a ∷ b ∷ c ∷ d ∷ e ∷ f ∷ [])) j noSection) k → ⊥
+  spared-there v zero zero k p q = all .apart 0 2 k (lit< tt) p q
+  spared-there v (suc zero) zero k p q = all .apart 1 2 k (lit< tt) p q
+  spared-there v (suc (suc i)) zero k p q = all .apart 2 (suc (suc (suc i))) k (omega arith) q p
+  spared-there v i (suc j) k p q = let t = q .to in omega arith
+
+  sound-layout : (v : ℕ) → SoundLayout n x (a ∷ b ∷ c ∷ d ∷ e ∷ f ∷ []) (layoutOf v (a ∷ b ∷ c ∷ d ∷ e ∷ f ∷ []))
+  sound-layout v = record { all = all; offered = thinned _ _ all (offered-rooms v); spared = spared-there v }
+
+-- the layout of every accepted image is sound
 pub sound : Sound
+unfolding startsOf sectionsOf
 sound s l e =
     let a = passed s l e in
-    subst (SoundSections (length s) (pageIn s)) (sym (sections-laid s) ∙ ap sectionsIn (a .layout)) (of-tests s l a)
+    subst (SoundLayout (length s) (pageIn s) (sectionsOf s)) (a .layout) (sound-layout _ _ _ _ _ _ (of-tests s l a) (versionOf s))

@@ -7,8 +7,8 @@ use lib.Dec.{ltb, eqb}
 use lib.ListN.{length, getD}
 use borrow.Author.Tests.{not-false}
 use Rattle.boot_rules.specs.Pages.{isPage}
-use Rattle.boot_rules.specs.Sections.{versionOf, rowIn, pageIn, offsetIn, noSection, sectionsOf}
-use Rattle.boot_rules.specs.Tests.{magic, anyOf, misplaced, overruns, missized, headTests, sectionTests}
+use Rattle.boot_rules.specs.Sections.{versionOf, rowIn, pageIn, offsetIn, noSection, sectionsOf, anyOf}
+use Rattle.boot_rules.specs.Tests.{magic, misplaced, overruns, missized, headTests, sectionTests}
 use Rattle.fields_rules.specs.Number.{numberAt}
 use Rattle.rules.specs.First.{first}
 use Rattle.rules.proofs.Tests.{all-fail}

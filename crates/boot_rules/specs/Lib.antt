@@ -3,4 +3,5 @@ pub mod Pages
 pub mod Sections
 pub mod Positions
 pub mod Tests
+pub mod Offered
 pub mod Sound

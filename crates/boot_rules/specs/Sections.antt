@@ -1,15 +1,17 @@
 -- The sections of a boot image, as its header gives them.
 -- Assumes nothing.
-use mathlib.Core.Bool.{Bool, true, false, cond}
+use mathlib.Core.Bool.{Bool, true, false, _||_, not, cond}
 use mathlib.Core.List.{List, [], _∷_}
 use Prim.Native.Nat.{ℕ, _+_}
+use lib.Dec.{eqb}
 use lib.ListN.{getD}
 use Rattle.boot_rules.specs.declared.Layout.{Layout}
+use Rattle.boot_rules.specs.declared.Rooms.{Rooms}
 use Rattle.boot_rules.specs.declared.Section.{Section}
 use Rattle.boot_rules.specs.declared.Field.{Field}
 use Rattle.boot_rules.specs.declared.Row.{Row}
 use Rattle.boot_rules.specs.Pages.{roundUp}
-use Rattle.boot_rules.specs.Table.{has, number, rowOf, pageSize, recoveryOffset, sizeFields}
+use Rattle.boot_rules.specs.Table.{Kind, has, number, rowOf, pageSize, recoveryOffset, kinds, sizeFields}
 use Rattle.fields_rules.specs.Number.{numberAt}
 
 -- "the version stands at byte 40 in every header"
@@ -55,23 +57,50 @@ place s [] fs = []
 place s (p ∷ ps) [] = []
 place s (p ∷ ps) (f ∷ fs) = sectionAt (has f) p (number s f) ∷ place s ps fs
 
--- the sections of an image, those that its version lacks being marked
+-- the rooms of the sections of an image, retired ones too, those that its version lacks being marked
 unfoldable pub sectionsOf : List ℕ → List Section
 sectionsOf s = place s (startsOf s) (sizeFields (rowIn s))
 
--- "its version and the position and size of each section of that version"
+-- the rooms that the code lays out, in the order of the sections
+abbrev pub roomsIn : Rooms → List Section
+roomsIn r = r .kernel ∷ r .ramdisk ∷ r .second ∷ r .recovery ∷ r .dtb ∷ r .signature ∷ []
+
+-- those of the sections whose kind passes a test
+abbrev pub choose : (Kind → Bool) → List Kind → List Section → List Section
+choose f [] xs = []
+choose f (k ∷ ks) [] = []
+choose f (k ∷ ks) (x ∷ xs) = cond (f k) (x ∷ choose f ks xs) (choose f ks xs)
+
+-- the sections that are offered
+abbrev pub offeredOf : List Section → List Section
+offeredOf xs = choose (λ k. k .offered) kinds xs
+
+-- the sections that are retired
+abbrev pub retiredOf : List Section → List Section
+retiredOf xs = choose (λ k. not (k .offered)) kinds xs
+
+-- "its size is not 0"
+abbrev pub filled : Section → Bool
+filled x = not (eqb (x .size) 0)
+
+-- whether a test holds of some section
+abbrev pub anyOf : (Section → Bool) → List Section → Bool
+anyOf f [] = false
+anyOf f (x ∷ xs) = f x || anyOf f xs
+
+-- "its version and the position and size of each section" that is offered, and "exactly when its size is not 0, that a retired section is present"
 abbrev pub layoutOf : ℕ → List Section → Layout
 layoutOf v xs =
     record {
       version = v;
-      kernel = getD xs 0 noSection;
-      ramdisk = getD xs 1 noSection;
-      second = getD xs 2 noSection;
-      recovery = getD xs 3 noSection;
-      dtb = getD xs 4 noSection;
-      signature = getD xs 5 noSection;
+      kernel = getD (offeredOf xs) 0 noSection;
+      ramdisk = getD (offeredOf xs) 1 noSection;
+      recovery = getD (offeredOf xs) 2 noSection;
+      dtb = getD (offeredOf xs) 3 noSection;
+      signature = getD (offeredOf xs) 4 noSection;
+      retired = anyOf filled (retiredOf xs);
     }
 
 -- the sections of a layout in their order
 abbrev pub sectionsIn : Layout → List Section
-sectionsIn l = l .kernel ∷ l .ramdisk ∷ l .second ∷ l .recovery ∷ l .dtb ∷ l .signature ∷ []
+sectionsIn l = l .kernel ∷ l .ramdisk ∷ l .recovery ∷ l .dtb ∷ l .signature ∷ []

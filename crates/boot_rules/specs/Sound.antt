@@ -8,9 +8,13 @@ use lib.ListN.{getD, length}
 use Rattle.rules.specs.Answer.{accepted}
 use Rattle.boot_rules.specs.declared.Layout.{Layout}
 use Rattle.boot_rules.specs.declared.Section.{Section}
-use Rattle.boot_rules.specs.Sections.{noSection, pageIn, sectionsIn}
+use Rattle.boot_rules.specs.Sections.{noSection, pageIn, sectionsOf, retiredOf, sectionsIn}
 use Rattle.boot_rules.specs.Table.{Within}
 use Rattle.boot_rules.specs.Tests.{answer}
+
+-- byte k of the input is one of a section's
+abbrev pub Holds : Section → ℕ → Type 0
+Holds x k = Within (x .position) (x .size) k
 
 -- sections in an input of n bytes with this page: each that is not empty lies inside the input, each begins at a multiple of the page and not before the first page, they stand in order, and no byte belongs to two
 pub record SoundSections (n page : ℕ) (xs : List Section) : Type 0 where
@@ -18,8 +22,14 @@ pub record SoundSections (n page : ℕ) (xs : List Section) : Type 0 where
   pub whole : (i : ℕ) → getD xs i noSection .position % page ≡ 0
   pub begins : (i : ℕ) → getD xs i noSection .present ≡ true → page ≤ getD xs i noSection .position
   pub order : (i j : ℕ) → i < j → getD xs j noSection .present ≡ true → getD xs i noSection .position + getD xs i noSection .size ≤ getD xs j noSection .position
-  pub apart : (i j k : ℕ) → i < j → Within (getD xs i noSection .position) (getD xs i noSection .size) k → Within (getD xs j noSection .position) (getD xs j noSection .size) k → ⊥
+  pub apart : (i j k : ℕ) → i < j → Holds (getD xs i noSection) k → Holds (getD xs j noSection) k → ⊥
 
--- the sections of every accepted image, in that image and with its page
+-- a layout in an input of n bytes with this page whose sections take these rooms: all the rooms are sound, that of the retired section among them, so are the sections that are offered, and no byte of an offered one is in the room of a retired one
+pub record SoundLayout (n page : ℕ) (rooms : List Section) (l : Layout) : Type 0 where
+  pub all : SoundSections n page rooms
+  pub offered : SoundSections n page (sectionsIn l)
+  pub spared : (i j k : ℕ) → Holds (getD (sectionsIn l) i noSection) k → Holds (getD (retiredOf rooms) j noSection) k → ⊥
+
+-- the layout of every accepted image, in that image, with its page and its rooms
 abbrev pub Sound : Type 0
-Sound = (s : List ℕ) (l : Layout) → answer s ≡ accepted l → SoundSections (length s) (pageIn s) (sectionsIn l)
+Sound = (s : List ℕ) (l : Layout) → answer s ≡ accepted l → SoundLayout (length s) (pageIn s) (sectionsOf s) l

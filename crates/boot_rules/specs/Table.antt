@@ -1,8 +1,8 @@
 -- The table of field positions: a row for each version of the boot image header, a column for each field.
 -- Assumes nothing.
 use mathlib.Core.Path.{_≡_}
-use mathlib.Core.Bool.{Bool, _||_, cond}
-use mathlib.Core.List.{List, [], _∷_}
+use mathlib.Core.Bool.{Bool, true, false, _||_, cond}
+use mathlib.Core.List.{List, [], _∷_, map}
 use Prim.Native.Nat.{ℕ, max, _+_, _≤_, _<_}
 use lib.Dec.{ltb, eqb}
 use lib.ListN.{getD}
@@ -243,16 +243,25 @@ pageSize r = field (r .at .page) (r .width .page)
 abbrev pub recoveryOffset : Row → Field
 recoveryOffset r = field (r .at .offset) (r .width .offset)
 
--- the size fields in the order of the sections: kernel, ramdisk, second, recovery, dtb, signature
-abbrev pub sizeFields : Row → List Field
-sizeFields r =
-    field (r .at .kernel) (r .width .kernel)
-    ∷ field (r .at .ramdisk) (r .width .ramdisk)
-    ∷ field (r .at .second) (r .width .second)
-    ∷ field (r .at .recovery) (r .width .recovery)
-    ∷ field (r .at .dtb) (r .width .dtb)
-    ∷ field (r .at .signature) (r .width .signature)
+-- a kind of section: where its size stands in a row, without bytes where the version lacks the section, and whether it is offered to callers; one that is not is retired
+pub record Kind : Type 0 where
+  pub size : Row → Field
+  pub offered : Bool
+
+-- the kinds of section in their order, kernel, ramdisk, second, recovery, dtb and signature: which of them a version has, and which are offered: "Stop offering the second section to callers"
+abbrev pub kinds : List Kind
+kinds =
+    record { size = λ r. field (r .at .kernel) (r .width .kernel); offered = true }
+    ∷ record { size = λ r. field (r .at .ramdisk) (r .width .ramdisk); offered = true }
+    ∷ record { size = λ r. field (r .at .second) (r .width .second); offered = false }
+    ∷ record { size = λ r. field (r .at .recovery) (r .width .recovery); offered = true }
+    ∷ record { size = λ r. field (r .at .dtb) (r .width .dtb); offered = true }
+    ∷ record { size = λ r. field (r .at .signature) (r .width .signature); offered = true }
     ∷ []
+
+-- the size fields of a row in the order of the sections
+abbrev pub sizeFields : Row → List Field
+sizeFields r = map (λ (k : Kind). k .size r) kinds
 
 -- every column of a row
 abbrev pub columns : Row → List Field

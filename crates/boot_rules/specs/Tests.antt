@@ -1,6 +1,6 @@
 -- The tests of a boot image in their order, and the answer.
 -- Assumes nothing.
-use mathlib.Core.Bool.{Bool, false, _&&_, _||_, not}
+use mathlib.Core.Bool.{Bool, _&&_, not}
 use mathlib.Core.List.{List, [], _∷_}
 use Prim.Native.Nat.{ℕ, _+_, _≤_}
 use lib.Dec.{ltb, eqb}
@@ -11,7 +11,7 @@ use Rattle.boot_rules.specs.declared.Located.the-variants.{Found, Refuse
 use Rattle.boot_rules.specs.declared.Section.{Section}
 use Rattle.boot_rules.specs.declared.Row.{Row}
 use Rattle.boot_rules.specs.Pages.{isPage}
-use Rattle.boot_rules.specs.Sections.{versionOf, rowIn, pageIn, offsetIn, noSection, sectionsOf, layoutOf}
+use Rattle.boot_rules.specs.Sections.{versionOf, rowIn, pageIn, offsetIn, noSection, sectionsOf, filled, anyOf, layoutOf}
 use Rattle.boot_rules.specs.Table.{has, number, headerSize}
 use Rattle.fields_rules.specs.Number.{numberAt}
 use Rattle.rules.specs.Answer.{Answer, accepted, refused, unless, numberOf, HasNumber}
@@ -21,18 +21,13 @@ use Rattle.rules.specs.First.{first}
 abbrev pub magic : List ℕ
 magic = 0x41 ∷ 0x4E ∷ 0x44 ∷ 0x52 ∷ 0x4F ∷ 0x49 ∷ 0x44 ∷ 0x21 ∷ []
 
--- whether a test holds of some section
-abbrev pub anyOf : (Section → Bool) → List Section → Bool
-anyOf f [] = false
-anyOf f (x ∷ xs) = f x || anyOf f xs
-
 -- "recovery size not 0 and its offset not the computed position"
 abbrev pub misplaced : ℕ → Section → Bool
-misplaced offset x = not (eqb (x .size) 0) && not (eqb offset (x .position))
+misplaced offset x = filled x && not (eqb offset (x .position))
 
 -- "a section that is not empty ends past the input"
 abbrev pub overruns : ℕ → Section → Bool
-overruns n x = not (eqb (x .size) 0) && ltb n (x .position + x .size)
+overruns n x = filled x && ltb n (x .position + x .size)
 
 -- "header size field (versions 1 to 4) not the header length"
 abbrev pub missized : List ℕ → Row → Bool

@@ -50,15 +50,26 @@ pub struct Section {
     pub size: u32,
 }
 
-// The sections of an accepted image, in their order.
-pub struct Layout {
-    pub version: u32,
+// The room that each section of an image takes, in their order, the retired one's too.
+pub struct Rooms {
     pub kernel: Section,
     pub ramdisk: Section,
     pub second: Section,
     pub recovery: Section,
     pub dtb: Section,
     pub signature: Section,
+}
+
+// What an accepted image offers: its version, the sections that are not retired, in their order, and whether it
+// carries a retired one that is not empty.
+pub struct Layout {
+    pub version: u32,
+    pub kernel: Section,
+    pub ramdisk: Section,
+    pub recovery: Section,
+    pub dtb: Section,
+    pub signature: Section,
+    pub retired: bool,
 }
 
 // The answer: the layout of an accepted image, or the number of the refusal.

@@ -221,10 +221,10 @@ pub extern "C" fn tarpaulark_pass_store_finish(
     tarpaulark_passes::store_finish(pass, partition, out)
 }
 
-// Finds the sections of a boot image. Answers the version, then for kernel, ramdisk, second, recovery,
-// dtb and signature whether it is present, its position and its size.
+// Finds the sections of a boot image. Answers the version, then for kernel, ramdisk, recovery, dtb and signature whether
+// it is present, its position and its size, then whether a retired section is present.
 #[no_mangle]
-pub extern "C" fn tarpaulark_locate(image: &[u8], out: &mut [u64; 19]) -> u32
+pub extern "C" fn tarpaulark_locate(image: &[u8], out: &mut [u64; 17]) -> u32
     ensures { λ r. ⌜ (r ≡ numberOf (boot.answer (now (image .entry))))
         × (now (out .exit) ≡ layoutNumbers (boot.answer (now (image .entry)))) ⌝ }
 {

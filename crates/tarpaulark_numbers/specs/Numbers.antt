@@ -67,7 +67,11 @@ abbrev pub sectionNumbers : List Section → List ℕ
 sectionNumbers [] = []
 sectionNumbers (x ∷ xs) = sectionOf x ++ sectionNumbers xs
 
--- the finder's array: "its version and the position and size of each section", all 0 for a refusal
+-- a layout: "its version and the position and size of each section" that is offered, then 1 where "a retired section is present"
+abbrev pub foundNumbers : Layout → List ℕ
+foundNumbers l = l .version ∷ (sectionNumbers (sectionsIn l) ++ (flag (l .retired) ∷ []))
+
+-- the finder's array: the layout's, all 0 for a refusal
 abbrev pub layoutNumbers : Answer Layout → List ℕ
-layoutNumbers (accepted l) = l .version ∷ sectionNumbers (sectionsIn l)
-layoutNumbers (refused n place) = replicate 19 0
+layoutNumbers (accepted l) = foundNumbers l
+layoutNumbers (refused n place) = replicate 17 0

@@ -13,16 +13,14 @@ use sparse_rules::Verdict;
 use sparse_store_rules::Stored;
 use sparse_write_rules::Outcome;
 ghost use mathlib.Core.Path.{_≡_};
-ghost use mathlib.Core.List.{_∷_};
 ghost use Rattle.rules.specs.Answer.{numberOf};
-ghost use Rattle.boot_rules.specs.Sections.{sectionsIn};
 ghost use Rattle.boot_rules.specs.Tests as boot;
 ghost use Rattle.sparse_rules.specs.Chunks.{chunk};
 ghost use Rattle.sparse_rules.specs.Answers.{answerOf, readingOf};
 ghost use Rattle.sparse_store_rules.specs.Answers.{cutAnswerOf};
 ghost use Rattle.sparse_write_rules.specs.Write as writer;
 ghost use Rattle.sparse_blocks_rules.specs.Pairs as pairs;
-ghost use Rattle.tarpaulark_numbers.specs.Numbers.{verdictNumbers, countNumbers, pairNumbers, kindNumber, chunkNumbers, headerNumbers, sectionOf, sectionNumbers, layoutNumbers};
+ghost use Rattle.tarpaulark_numbers.specs.Numbers.{verdictNumbers, countNumbers, pairNumbers, kindNumber, chunkNumbers, headerNumbers, sectionOf, foundNumbers, layoutNumbers};
 
 // The number that a verdict returns.
 pub fn verdict_number(v: Verdict) -> u32
@@ -184,16 +182,16 @@ fn section_answer(s: Section) -> [u64; 3]
     [present as u64, s.position, s.size as u64]
 }
 
-// A layout: its version, then its six sections.
-fn layout_answer(l: Layout) -> [u64; 19]
-    ensures { λ r. ⌜ r ≡ l .version ∷ sectionNumbers (sectionsIn l) ⌝ }
+// A layout: its version, the five sections that are offered, and whether a retired one is there.
+fn layout_answer(l: Layout) -> [u64; 17]
+    ensures { λ r. ⌜ r ≡ foundNumbers l ⌝ }
 {
     let a = section_answer(l.kernel);
     let b = section_answer(l.ramdisk);
-    let c = section_answer(l.second);
-    let d = section_answer(l.recovery);
-    let e = section_answer(l.dtb);
-    let f = section_answer(l.signature);
+    let c = section_answer(l.recovery);
+    let d = section_answer(l.dtb);
+    let e = section_answer(l.signature);
+    let retired = flag_byte(l.retired);
     [
         l.version as u64,
         a[0],
@@ -211,18 +209,16 @@ fn layout_answer(l: Layout) -> [u64; 19]
         e[0],
         e[1],
         e[2],
-        f[0],
-        f[1],
-        f[2],
+        retired as u64,
     ]
 }
 
 // What the finder of sections answers: all 0 for a refusal.
-pub fn located_answer(a: Located) -> [u64; 19]
+pub fn located_answer(a: Located) -> [u64; 17]
     ensures { λ r. ⌜ r ≡ layoutNumbers (boot.answerOf a) ⌝ }
 {
     match a {
         Located::Found(l) => layout_answer(l),
-        Located::Refused(_) => [0; 19],
+        Located::Refused(_) => [0; 17],
     }
 }

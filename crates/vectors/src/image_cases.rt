@@ -13,9 +13,9 @@ pub(crate) fn boot(rest: &[u8]) -> usize {
     let mut buf = io::large_buffer();
     let taken = build(rest, &mut buf);
     let image = part(&buf, 0, fields_read::read32(rest, 0) as usize);
-    let mut out = [0u64; 19];
+    let mut out = [0u64; 17];
     value(tarpaulark::tarpaulark_locate(image, &mut out) as u64);
-    for i in 0usize..19 {
+    for i in 0usize..17 {
         value(out[i]);
     }
     taken

@@ -95,15 +95,17 @@ boot3 n =
     (0x41 ∷ 0x4E ∷ 0x44 ∷ 0x52 ∷ 0x4F ∷ 0x49 ∷ 0x44 ∷ 0x21 ∷ [])
     ++ (bytes 4 4097 ++ (bytes 4 1 ++ (replicate 4 0 ++ (bytes 4 1580 ++ (replicate 16 0 ++ (bytes 4 3 ++ replicate (n - 44) 0))))))
 
--- P11: "version 2, page 2,048, kernel 2,048, ramdisk 1, dtb 1, others 0"
-abbrev pub boot2 : List ℕ
-boot2 =
+-- P11: "version 2, page 2,048, kernel 2,048, ramdisk 1, dtb 1, others 0", with another second size or dtb size in the examples of request 10, of so many bytes
+abbrev pub boot2 : ℕ → ℕ → ℕ → List ℕ
+boot2 second dtb n =
     (0x41 ∷ 0x4E ∷ 0x44 ∷ 0x52 ∷ 0x4F ∷ 0x49 ∷ 0x44 ∷ 0x21 ∷ [])
     ++ (bytes 4 2048
     ++ (replicate 4 0
     ++ (bytes 4 1
-    ++ (replicate 16 0
-    ++ (bytes 4 2048 ++ (bytes 4 2 ++ (replicate 1600 0 ++ (bytes 4 1660 ++ (bytes 4 1 ++ replicate 4493 0)))))))))
+    ++ (replicate 4 0
+    ++ (bytes 4 second
+    ++ (replicate 8 0
+    ++ (bytes 4 2048 ++ (bytes 4 2 ++ (replicate 1600 0 ++ (bytes 4 1660 ++ (bytes 4 dtb ++ replicate (n - 1652) 0)))))))))))
 
 -- a section of the version: position, size
 abbrev pub section : ℕ → ℕ → Section
@@ -113,17 +115,17 @@ section position size = record { present = true; position = position; size = siz
 abbrev pub none : Section
 none = record { present = false; position = 0; size = 0 }
 
--- what is found in an accepted boot image: its version, and kernel, ramdisk, second, recovery, dtb and signature
-abbrev pub layout : ℕ → Section → Section → Section → Section → Section → Section → Layout
-layout version kernel ramdisk second recovery dtb signature =
+-- what is found in an accepted boot image: its version, then kernel, ramdisk, recovery, dtb and signature, and whether a retired section is present
+abbrev pub layout : ℕ → Section → Section → Section → Section → Section → Bool → Layout
+layout version kernel ramdisk recovery dtb signature retired =
     record {
       version = version;
       kernel = kernel;
       ramdisk = ramdisk;
-      second = second;
       recovery = recovery;
       dtb = dtb;
       signature = signature;
+      retired = retired;
     }
 
 -- a slot in use, not corrupted: unbootable, successful, tries

@@ -64,20 +64,32 @@ abbrev pub row10 : Row
 row10 =
     record {
       call = locates (boot3 12289);
-      result = located (accepted (layout 3 (section 4096 4097) (section 12288 1) none none none none));
+      result = located (accepted (layout 3 (section 4096 4097) (section 12288 1) none none none false));
     }
 
 -- P10: "12,288: 26"
 abbrev pub row10Short : Row
 row10Short = record { call = locates (boot3 12288); result = located (refused 26 0) }
 
--- P11: "2,048, 4,096, dtb at 6,144"
+-- P11: "2,048, 4,096, dtb at 6,144", as request 10 has it: the second section, which is empty, is not offered, and no retired section is present
 abbrev pub row11 : Row
 row11 =
     record {
-      call = locates boot2;
-      result = located (accepted (layout 2 (section 2048 2048) (section 4096 1) (section 6144 0) (section 6144 0) (section 6144 1) none));
+      call = locates (boot2 0 1 6145);
+      result = located (accepted (layout 2 (section 2048 2048) (section 4096 1) (section 6144 0) (section 6144 1) none false));
     }
+
+-- request 10: P11 with a second section of one byte, "accepted as before, with the later sections in the same places": one page on
+abbrev pub rowRetired : Row
+rowRetired =
+    record {
+      call = locates (boot2 1 1 8193);
+      result = located (accepted (layout 2 (section 2048 2048) (section 4096 1) (section 8192 0) (section 8192 1) none true));
+    }
+
+-- request 10: "One that ends past the input still gets 26": P11 with a second section of two bytes, of which the input holds one, and no dtb
+abbrev pub rowRetiredPast : Row
+rowRetiredPast = record { call = locates (boot2 2 0 6145); result = located (refused 26 0) }
 
 -- P12: "a current, tries 0; b successful: b starts, a unbootable"
 abbrev pub row12 : Row
@@ -179,10 +191,10 @@ rowJoined = record { call = joins firstUpdate secondUpdate (replicate 78 7); res
 abbrev pub rowJoinedShort : Row
 rowJoinedShort = record { call = joins firstUpdate secondUpdate (replicate 75 7); result = joined (refused 18 0) 0 (replicate 75 7) }
 
--- P1 to P14, two of request 4, three of request 6, the lister's texts, four of request 5, and two of request 7
+-- P1 to P14, two of request 10 among them, two of request 4, three of request 6, the lister's texts, four of request 5, and two of request 7
 abbrev pub table : List Row
 table =
-    row1 ∷ row2 ∷ row3 ∷ row4 ∷ row5 ∷ row6 ∷ row7 ∷ row8 ∷ row8One ∷ row9 ∷ row9Short ∷ row10 ∷ row10Short ∷ row11 ∷ row12 ∷ row13 ∷ row14 ∷ rowCorrupted ∷ rowNoCandidate ∷ rowCounted ∷ rowMiscounted ∷ rowMiscountedStart ∷ rowListed ∷ rowListedUnknown ∷ rowCompared ∷ rowComparedShort ∷ rowComparedGeometry ∷ rowComparedSecond ∷ rowJoined ∷ rowJoinedShort ∷ []
+    row1 ∷ row2 ∷ row3 ∷ row4 ∷ row5 ∷ row6 ∷ row7 ∷ row8 ∷ row8One ∷ row9 ∷ row9Short ∷ row10 ∷ row10Short ∷ row11 ∷ rowRetired ∷ rowRetiredPast ∷ row12 ∷ row13 ∷ row14 ∷ rowCorrupted ∷ rowNoCandidate ∷ rowCounted ∷ rowMiscounted ∷ rowMiscountedStart ∷ rowListed ∷ rowListedUnknown ∷ rowCompared ∷ rowComparedShort ∷ rowComparedGeometry ∷ rowComparedSecond ∷ rowJoined ∷ rowJoinedShort ∷ []
 
 -- every call of the table gives back what its row says
 abbrev pub Worked : Type 0

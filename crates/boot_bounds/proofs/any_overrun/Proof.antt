@@ -26,7 +26,7 @@ overrun-requires-6 c κs = search needs
 returns : tie.Need-returns
 returns c =
     let a = c .before .before .before .before .before .before .args in
-    any-six (overruns (a .n)) (a .l .kernel) (a .l .ramdisk) (a .l .second) (a .l .recovery) (a .l .dtb) (a .l .signature) _ _ _ _ _ _
+    any-six (overruns (a .n)) (a .rooms .kernel) (a .rooms .ramdisk) (a .rooms .second) (a .rooms .recovery) (a .rooms .dtb) (a .rooms .signature) _ _ _ _ _ _
     (c .before .before .before .before .before .overrun .ensures)
     (c .before .before .before .before .overrun2 .ensures)
     (c .before .before .before .overrun3 .ensures)

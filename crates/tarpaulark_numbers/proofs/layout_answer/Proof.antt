@@ -1,6 +1,6 @@
 -- `tarpaulark_numbers::layout_answer` meets its contract. Assumes nothing.
 use borrow.Author.Needs.{needs}
-use Rattle.tarpaulark_numbers.proofs.Layouts.{six}
+use Rattle.tarpaulark_numbers.proofs.Layouts.{five}
 use Rattle.tarpaulark_numbers.proofs.layout_answer.Statement.{statement}
 use Rattle.tarpaulark_numbers.proofs.layout_answer.Tie as tie
 
@@ -19,8 +19,8 @@ section-answer-requires-4 c κs = search needs
 section-answer-requires-5 : tie.Need-section-answer-requires-5
 section-answer-requires-5 c κs = search needs
 
-section-answer-requires-6 : tie.Need-section-answer-requires-6
-section-answer-requires-6 c κs = search needs
+flag-byte-requires : tie.Need-flag-byte-requires
+flag-byte-requires c κs = search needs
 
 cast-t9 : tie.Need-cast-t9
 cast-t9 c = search needs
@@ -70,17 +70,13 @@ array-read-t51 c = search needs
 array-read-t54 : tie.Need-array-read-t54
 array-read-t54 c = search needs
 
-array-read-t57 : tie.Need-array-read-t57
-array-read-t57 c = search needs
-
-array-read-t60 : tie.Need-array-read-t60
-array-read-t60 c = search needs
-
-array-read-t63 : tie.Need-array-read-t63
-array-read-t63 c = search needs
+cast-t55 : tie.Need-cast-t55
+cast-t55 c = search needs
 
 returns : tie.Need-returns
-returns c = six (c .before .before .before .before .before .before .before .args .l) _ _ _ _ _ _ (c .before .before .before .before .before .before .section-answer .ensures) (c .before .before .before .before .before .section-answer2 .ensures) (c .before .before .before .before .section-answer3 .ensures) (c .before .before .before .section-answer4 .ensures) (c .before .before .section-answer5 .ensures) (c .before .section-answer6 .ensures)
+returns c =
+    let p = c .before .before .before .before .before .before in
+    five (p .before .args .l) _ _ _ _ _ _ (p .section-answer .ensures) (c .before .before .before .before .before .section-answer2 .ensures) (c .before .before .before .before .section-answer3 .ensures) (c .before .before .before .section-answer4 .ensures) (c .before .before .section-answer5 .ensures) (c .before .flag-byte .ensures)
 
 pub layout-answer-spec : {M : Type 1} → statement M
 layout-answer-spec =
@@ -91,7 +87,7 @@ layout-answer-spec =
     section-answer-requires-3
     section-answer-requires-4
     section-answer-requires-5
-    section-answer-requires-6
+    flag-byte-requires
     cast-t9
     array-read-t12
     array-read-t15
@@ -108,7 +104,5 @@ layout-answer-spec =
     array-read-t48
     array-read-t51
     array-read-t54
-    array-read-t57
-    array-read-t60
-    array-read-t63
+    cast-t55
     returns)

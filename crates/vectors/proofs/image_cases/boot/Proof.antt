@@ -8,7 +8,7 @@ abbrev Inv-loop : tie.InvT-loop
 Inv-loop rest taken out i₀ i = Unit {0}
 
 abbrev μ-loop : tie.MeasureT-loop
-μ-loop rest taken out i₀ i = 19 - i
+μ-loop rest taken out i₀ i = 17 - i
 
 large-buffer-requires : tie.Need-large-buffer-requires Inv-loop μ-loop
 large-buffer-requires c κs = search needs
