@@ -36,9 +36,11 @@
  * names it. Code that was compiled before works as it did, and 28 is never used again.
  * From 0.9.0 to 0.10.0 the answer of locate shrank from 19 entries to 17: it no longer
  * has the second-stage loader, what stood after that moved, and its last entry is new.
- * TARPAULARK_SECOND went, so code that names it no longer compiles: take it out. Code
- * compiled with a header before 0.10.0, or that has numbers in place of the names below,
- * finds recovery, dtb and signature in wrong entries: compile it anew, with the names.
+ * TARPAULARK_SECOND went, so code that names it no longer compiles: take it out. Header
+ * and library go together: a library before 0.10.0 writes two numbers past an array of
+ * 17, and code compiled with an older header, or with numbers in place of the names
+ * below, finds recovery, dtb and signature in wrong entries and reads two that no call
+ * fills: compile it anew, with the names.
  *
  * Where it runs
  *
@@ -269,10 +271,10 @@ enum {
    present. */
 enum {
     TARPAULARK_VERSION_AT = 0,
+    TARPAULARK_RETIRED_AT = 16,
     TARPAULARK_SECTION_PRESENT = 0,
     TARPAULARK_SECTION_POSITION = 1,
-    TARPAULARK_SECTION_SIZE = 2,
-    TARPAULARK_RETIRED_AT = 16
+    TARPAULARK_SECTION_SIZE = 2
 };
 enum {
     TARPAULARK_KERNEL = 0,
@@ -566,7 +568,7 @@ uint32_t tarpaulark_pass_store_finish(
 /*
  * Finds the sections of a boot image. Reads the image.
  *
- * The version says which sections an image has, empty or not:
+ * The version says which sections are offered, empty or not:
  *
  *    0  kernel, ramdisk
  *    1  kernel, ramdisk, recovery

@@ -472,6 +472,7 @@ static void try_boot(void)
         make_boot(version);
         measure(locate);
         expect(number == 0, "the boot image is refused");
+        expect(answer[TARPAULARK_RETIRED_AT] == (version < 3), "a retired section is told of wrongly");
         for (size_t i = 0; i < 1660; i += i == 48 ? 1580 - 48 : 1) {
             image[i] ^= 0xFF;
             measure(locate);

@@ -19,7 +19,7 @@ pub(crate) struct Step {
     pub(crate) next: u64,
 }
 
-// The sections up to the retired one, and where the next one begins.
+// The first three sections, the retired one the last of them, and where the next one begins.
 pub(crate) struct Front {
     pub(crate) kernel: Section,
     pub(crate) ramdisk: Section,
@@ -83,9 +83,9 @@ pub(crate) fn lay(image: &[u8]) -> Rooms
     requires { ⌜ isPage (pageIn (now image)) ≡ true ⌝ }
     ensures { λ r. ⌜ roomsIn r ≡ sectionsOf (now (image .entry)) ⌝ }
 {
+    let front = lay_front(image);
     let row = row_in(image);
     let page = page_in(image);
-    let front = lay_front(image);
     let a = step_over(image, row.at.recovery, row.width.recovery, front.next, page);
     let b = step_over(image, row.at.dtb, row.width.dtb, a.next, page);
     let c = step_over(image, row.at.signature, row.width.signature, b.next, page);

@@ -9,15 +9,14 @@ use lib.Dec.{eqb}
 use borrow.Author.Tests.{lt-ltb, eq-eqb, ne-eqb}
 use Rattle.boot_rules.specs.declared.Field.{Field}
 use Rattle.boot_rules.specs.declared.Layout.{Layout}
-use Rattle.boot_rules.specs.declared.Rooms.{Rooms}
-use Rattle.boot_rules.specs.Offered.{Standings, secondSize, RetiredTold}
-use Rattle.boot_rules.specs.Sections.{versionOf, sectionAt, startsOf, sectionsOf, roomsIn, filled, layoutOf}
+use Rattle.boot_rules.specs.Offered.{StandingsOfAll, secondSize, RetiredTold}
+use Rattle.boot_rules.specs.Sections.{versionOf, sectionAt, startsOf, sectionsOf}
 use Rattle.boot_rules.specs.Table.{has, number, rowOf}
 use Rattle.fields_rules.specs.Number.{numberAt}
 use Rattle.boot_rules.proofs.Answers.{Passed, passed}
 
 -- the sections of all versions
-pub standings-of-all : Standings
+pub standings-of-all : StandingsOfAll
 unfolding rowOf
 standings-of-all = refl
 
@@ -31,13 +30,9 @@ size-there s f p = go (f .width)
     go (suc w) = rw (lt-ltb 0 (suc w) (omega arith))
 
 -- a test of one section alone
-or-none : (b : Bool) → (b || false) ≡ b
+pub or-none : (b : Bool) → (b || false) ≡ b
 or-none true = refl
 or-none false = refl
-
--- what is offered of an image, section by section
-pub offers : (v : ℕ) (r : Rooms) → record { version = v; kernel = r .kernel; ramdisk = r .ramdisk; recovery = r .recovery; dtb = r .dtb; signature = r .signature; retired = filled (r .second) } ≡ layoutOf v (roomsIn r)
-offers v r = rw (or-none (filled (r .second)))
 
 -- what is said of the second section goes by its size
 said : (s : List ℕ) (l : Layout) → Passed s l → not (eqb (secondSize s) 0) ≡ l .retired

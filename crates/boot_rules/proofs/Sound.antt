@@ -15,7 +15,7 @@ use Rattle.boot_rules.specs.declared.Field.{Field}
 use Rattle.boot_rules.specs.Pages.{roundUp}
 use Rattle.boot_rules.specs.Sections.{versionOf, rowIn, pageIn, noSection, sectionAt, startsOf, sectionsOf, anyOf, layoutOf, retiredOf, sectionsIn}
 use Rattle.boot_rules.specs.Sound.{Holds, SoundSections, SoundLayout, Sound}
-use Rattle.boot_rules.specs.Table.{has, number, sizeFields, Within}
+use Rattle.boot_rules.specs.Table.{has, number, sizeFields}
 use Rattle.boot_rules.specs.Tests.{overruns}
 use Rattle.rules.proofs.Tests.{or-left, or-right}
 use Rattle.boot_rules.proofs.Answers.{Passed, passed}
@@ -72,7 +72,7 @@ inside-all n (y ∷ ys) e zero h = ends-inside n y (or-left (overruns n y) (anyO
 inside-all n (y ∷ ys) e (suc i) h = inside-all n ys (or-right (overruns n y) (anyOf (overruns n) ys) e) i h
 
 -- sections in order share no byte
-apart-of : (y z : Section) (k : ℕ) → (z .present ≡ true → y .position + y .size ≤ z .position) → (z .present ≡ false → z .size ≡ 0) → Within (y .position) (y .size) k → Within (z .position) (z .size) k → ⊥
+apart-of : (y z : Section) (k : ℕ) → (z .present ≡ true → y .position + y .size ≤ z .position) → (z .present ≡ false → z .size ≡ 0) → Holds y k → Holds z k → ⊥
 apart-of y z k o n a b = go (z .present) refl
   where
     go : (t : Bool) → z .present ≡ t → ⊥
@@ -146,7 +146,7 @@ module _ {n x : ℕ} (a b c d e f : Section) (all : SoundSections n x (a ∷ b �
   spared-there v i (suc j) k p q = let t = q .to in omega arith
 
   sound-layout : (v : ℕ) → SoundLayout n x (a ∷ b ∷ c ∷ d ∷ e ∷ f ∷ []) (layoutOf v (a ∷ b ∷ c ∷ d ∷ e ∷ f ∷ []))
-  sound-layout v = record { all = all; offered = thinned _ _ all (offered-rooms v); spared = spared-there v }
+  sound-layout v = record { all = all; chosen = refl; offered = thinned _ _ all (offered-rooms v); spared = spared-there v }
 
 -- the layout of every accepted image is sound
 pub sound : Sound

@@ -8,7 +8,7 @@ use Rattle.rules.specs.Answer.{accepted}
 use Rattle.boot_rules.specs.declared.Layout.{Layout}
 use Rattle.boot_rules.specs.declared.Row.{Row}
 use Rattle.boot_rules.specs.Sections.{rowIn}
-use Rattle.boot_rules.specs.Table.{Kind, field, has, number, rowOf, kinds}
+use Rattle.boot_rules.specs.Table.{SectionKind, field, has, number, rowOf, sectionKinds}
 use Rattle.boot_rules.specs.Tests.{answer}
 
 -- what a version makes of a kind of section: it lacks it, it has it and it is offered, or it has it and it is retired
@@ -18,16 +18,16 @@ pub data Standing : Type 0 where
   retired : Standing
 
 -- the standing of a kind of section, by the row of the version
-abbrev pub standing : Row → Kind → Standing
+abbrev pub standing : Row → SectionKind → Standing
 standing r k = cond (has (k .size r)) (cond (k .offered) offered retired) lacked
 
 -- which sections a version has and which of them are offered, in the order of the sections
 abbrev pub standings : ℕ → List Standing
-standings v = map (standing (rowOf v)) kinds
+standings v = map (standing (rowOf v)) sectionKinds
 
 -- "Sections after the header page" of versions 0 to 4: kernel, ramdisk, second, recovery, dtb, signature, of which the second is retired
-abbrev pub Standings : Type 0
-Standings =
+abbrev pub StandingsOfAll : Type 0
+StandingsOfAll =
     map standings (0 ∷ 1 ∷ 2 ∷ 3 ∷ 4 ∷ [])
     ≡ (offered ∷ offered ∷ retired ∷ lacked ∷ lacked ∷ lacked ∷ [])
     ∷ (offered ∷ offered ∷ retired ∷ offered ∷ lacked ∷ lacked ∷ [])

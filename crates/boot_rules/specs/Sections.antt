@@ -11,7 +11,7 @@ use Rattle.boot_rules.specs.declared.Section.{Section}
 use Rattle.boot_rules.specs.declared.Field.{Field}
 use Rattle.boot_rules.specs.declared.Row.{Row}
 use Rattle.boot_rules.specs.Pages.{roundUp}
-use Rattle.boot_rules.specs.Table.{Kind, has, number, rowOf, pageSize, recoveryOffset, kinds, sizeFields}
+use Rattle.boot_rules.specs.Table.{SectionKind, has, number, rowOf, pageSize, recoveryOffset, sectionKinds, sizeFields}
 use Rattle.fields_rules.specs.Number.{numberAt}
 
 -- "the version stands at byte 40 in every header"
@@ -65,19 +65,19 @@ sectionsOf s = place s (startsOf s) (sizeFields (rowIn s))
 abbrev pub roomsIn : Rooms → List Section
 roomsIn r = r .kernel ∷ r .ramdisk ∷ r .second ∷ r .recovery ∷ r .dtb ∷ r .signature ∷ []
 
--- those of the sections whose kind passes a test
-abbrev pub choose : (Kind → Bool) → List Kind → List Section → List Section
+-- of sections and their kinds, in step, the sections whose kind passes a test
+abbrev pub choose : (SectionKind → Bool) → List SectionKind → List Section → List Section
 choose f [] xs = []
 choose f (k ∷ ks) [] = []
 choose f (k ∷ ks) (x ∷ xs) = cond (f k) (x ∷ choose f ks xs) (choose f ks xs)
 
 -- the sections that are offered
 abbrev pub offeredOf : List Section → List Section
-offeredOf xs = choose (λ k. k .offered) kinds xs
+offeredOf xs = choose (λ k. k .offered) sectionKinds xs
 
 -- the sections that are retired
 abbrev pub retiredOf : List Section → List Section
-retiredOf xs = choose (λ k. not (k .offered)) kinds xs
+retiredOf xs = choose (λ k. not (k .offered)) sectionKinds xs
 
 -- "its size is not 0"
 abbrev pub filled : Section → Bool

@@ -8,7 +8,7 @@ use lib.ListN.{getD, length}
 use Rattle.rules.specs.Answer.{accepted}
 use Rattle.boot_rules.specs.declared.Layout.{Layout}
 use Rattle.boot_rules.specs.declared.Section.{Section}
-use Rattle.boot_rules.specs.Sections.{noSection, pageIn, sectionsOf, retiredOf, sectionsIn}
+use Rattle.boot_rules.specs.Sections.{noSection, pageIn, sectionsOf, offeredOf, retiredOf, sectionsIn}
 use Rattle.boot_rules.specs.Table.{Within}
 use Rattle.boot_rules.specs.Tests.{answer}
 
@@ -24,9 +24,10 @@ pub record SoundSections (n page : ℕ) (xs : List Section) : Type 0 where
   pub order : (i j : ℕ) → i < j → getD xs j noSection .present ≡ true → getD xs i noSection .position + getD xs i noSection .size ≤ getD xs j noSection .position
   pub apart : (i j k : ℕ) → i < j → Holds (getD xs i noSection) k → Holds (getD xs j noSection) k → ⊥
 
--- a layout in an input of n bytes with this page whose sections take these rooms: all the rooms are sound, that of the retired section among them, so are the sections that are offered, and no byte of an offered one is in the room of a retired one
+-- a layout in an input of n bytes with this page whose sections take these rooms: all the rooms are sound, that of the retired section in its place among them; the sections of the layout are the rooms that are offered, and sound too; and no byte of one is in the room of a retired section
 pub record SoundLayout (n page : ℕ) (rooms : List Section) (l : Layout) : Type 0 where
   pub all : SoundSections n page rooms
+  pub chosen : sectionsIn l ≡ offeredOf rooms
   pub offered : SoundSections n page (sectionsIn l)
   pub spared : (i j k : ℕ) → Holds (getD (sectionsIn l) i noSection) k → Holds (getD (retiredOf rooms) j noSection) k → ⊥
 

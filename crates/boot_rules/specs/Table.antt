@@ -243,14 +243,14 @@ pageSize r = field (r .at .page) (r .width .page)
 abbrev pub recoveryOffset : Row → Field
 recoveryOffset r = field (r .at .offset) (r .width .offset)
 
--- a kind of section: where its size stands in a row, without bytes where the version lacks the section, and whether it is offered to callers; one that is not is retired
-pub record Kind : Type 0 where
+-- a kind of section: where its size stands in a row, and whether it is offered to callers; one that is not is retired
+pub record SectionKind : Type 0 where
   pub size : Row → Field
   pub offered : Bool
 
--- the kinds of section in their order, kernel, ramdisk, second, recovery, dtb and signature: which of them a version has, and which are offered: "Stop offering the second section to callers"
-abbrev pub kinds : List Kind
-kinds =
+-- kernel, ramdisk, second, recovery, dtb and signature, in their order: a version has those whose size field has bytes in its row, and all but one are offered, "Stop offering the second section to callers"
+abbrev pub sectionKinds : List SectionKind
+sectionKinds =
     record { size = λ r. field (r .at .kernel) (r .width .kernel); offered = true }
     ∷ record { size = λ r. field (r .at .ramdisk) (r .width .ramdisk); offered = true }
     ∷ record { size = λ r. field (r .at .second) (r .width .second); offered = false }
@@ -261,7 +261,7 @@ kinds =
 
 -- the size fields of a row in the order of the sections
 abbrev pub sizeFields : Row → List Field
-sizeFields r = map (λ (k : Kind). k .size r) kinds
+sizeFields r = map (λ (k : SectionKind). k .size r) sectionKinds
 
 -- every column of a row
 abbrev pub columns : Row → List Field

@@ -67,7 +67,7 @@ abbrev pub sectionNumbers : List Section → List ℕ
 sectionNumbers [] = []
 sectionNumbers (x ∷ xs) = sectionOf x ++ sectionNumbers xs
 
--- a layout: "its version and the position and size of each section" that is offered, then 1 where "a retired section is present"
+-- a layout: its version, each section that is offered, and 1 where "a retired section is present", else 0
 abbrev pub foundNumbers : Layout → List ℕ
 foundNumbers l = l .version ∷ (sectionNumbers (sectionsIn l) ++ (flag (l .retired) ∷ []))
 

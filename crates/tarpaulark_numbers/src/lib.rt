@@ -182,7 +182,7 @@ fn section_answer(s: Section) -> [u64; 3]
     [present as u64, s.position, s.size as u64]
 }
 
-// A layout: its version, the five sections that are offered, and whether a retired one is there.
+// A layout: its version, the five sections that are offered, and whether a retired one is present.
 fn layout_answer(l: Layout) -> [u64; 17]
     ensures { λ r. ⌜ r ≡ foundNumbers l ⌝ }
 {
