@@ -46,8 +46,8 @@ static const struct command {
     {"write", 3, 3, 0, write_image, "write FLAT BLOCK-SIZE OUT", "makes a sparse image from flat bytes"},
     {"sections", 1, 1, 0, sections, "sections BOOT-IMAGE",
      "prints the version of a boot image, then name, position and size of each\n"
-     "          section that is offered; then, where it carries a second-stage loader, which\n"
-     "          is not, `retired section present`"},
+     "          section that is offered; last, where it carries a second-stage loader, which is\n"
+     "          not offered, `retired section present`"},
     {"slots", 2, 3, 0, slots,
      "slots RECORD fresh COUNT\n"
      "       tarpaulark slots RECORD start | confirm\n"

@@ -39,8 +39,8 @@
  * TARPAULARK_SECOND went, so code that names it no longer compiles: take it out. Header
  * and library go together: a library before 0.10.0 writes two numbers past an array of
  * 17, and code compiled with an older header, or with numbers in place of the names
- * below, finds recovery, dtb and signature in wrong entries and reads two that no call
- * fills: compile it anew, with the names.
+ * below, looks for recovery, dtb and signature in the wrong entries and reads two that
+ * no call fills: compile it anew, with the names.
  *
  * Where it runs
  *
@@ -196,7 +196,7 @@ enum tarpaulark_refusal {
     TARPAULARK_BAD_BOOT_HEADER_SIZE = 24,
     /* page size not a number with a single one bit from 2,048 to 16,384 */
     TARPAULARK_BAD_BOOT_PAGE_SIZE = 25,
-    /* a section that is not empty, be it a retired one, ends past the input (after 27) */
+    /* a section that is not empty, a retired one too, ends past the input (after 27) */
     TARPAULARK_BAD_BOOT_END = 26,
     /* recovery size not 0 and its offset not the computed position */
     TARPAULARK_BAD_BOOT_RECOVERY = 27,
@@ -577,11 +577,10 @@ uint32_t tarpaulark_pass_store_finish(
  *    4  kernel, ramdisk, signature
  *
  * Images of versions 0 to 2 may also carry a second-stage loader, between ramdisk and
- * recovery. No board of ours runs one: it is a retired section, which is not offered.
- * All that is said of it is whether one is present, which is when its size is not 0.
- * It still takes its room: later sections stand where they stood, the recovery offset
- * counts it, and one that ends past the input is refused with 26. Versions 3 and 4
- * have no such section: of an image of theirs it is never said that one is present.
+ * recovery. It is a retired section, which is not offered: all that is said of it is
+ * whether one is present, which is when its size is not 0. It still takes its room:
+ * later sections stand where they stood, the recovery offset counts it, and a loader
+ * that ends past the input is refused with 26. Versions 3 and 4 have no such section.
  *
  * Refusals, in this order: 21, 22, 23, 21, 24, 25, 27, 26.
  * answer: version; then for kernel, ramdisk, recovery, dtb and signature in turn 1 if

@@ -426,8 +426,8 @@ def output_length(rng: random.Random, first: bytes, second: bytes) -> int:
 
 
 def boot_input(rng: random.Random) -> bytes:
-    """A boot image, whole or damaged, or with another size of the second section, which in
-    versions 3 and 4 are reserved bytes; or bytes that are none."""
+    """A boot image, whole or damaged, or with another number where versions 0 to 2 have the size of
+    the second section; or bytes that are none."""
     image = cases_boot.random_image(rng)
     kind = below(rng, 9)
     if kind == 0:

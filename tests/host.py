@@ -1642,8 +1642,9 @@ def joined_over_links(tool: Tool) -> None:
 # Boot images.
 
 def retired_sections(tool: Tool) -> None:
-    """Archived images are told of as the reference has it: a retired section in text by a last line where one is
-    present, and in the object always by whether one is."""
+    """Archived images, and those of versions 3 and 4 with bytes where older ones have the size of the second section, are
+    told of as the reference has it: a retired section in text by a last line where one is present, and in the object
+    always by whether one is."""
     for image in cases_boot.retired_images() + cases_boot.reserved_images():
         save("image", image)
         found = boot.locate(image)

@@ -25,7 +25,7 @@ grep -q "tarpaulark $version" "$root/share/man/man1/tarpaulark.1" || die "the ma
 # count last, and nothing past the record is touched; with another count it is refused. Two images are written and
 # compared: the runs, of a block and of two, stand where the header says. Joined they are the second, whose blocks are all
 # written, with its length where the header says; a byte less is too short, and nothing past it is touched. A boot image
-# of version 2 has its sections where the header says, and whether a retired one is present last, with and without one;
+# of version 2 has its sections where the header says, and last whether a retired one is present, with and without one;
 # nothing past the answer is touched, and an input that is too short is refused.
 cat >"$folder/use.c" <<'END_C'
 #include <tarpaulark.h>

@@ -206,7 +206,7 @@ stated_size() {
 }
 
 # Each section lies in boot where the tool says, at its file's size, in order. Of the second one, which still takes its
-# room, it says only that it is present, and only where its file is not empty.
+# room, it says only that it is present, and only in versions 0 to 2, where its file is not empty.
 same_sections() {
     local names=() name at size want=(version kernel ramdisk)
     [ "$1" != 1 ] && [ "$1" != 2 ] || want+=(recovery)

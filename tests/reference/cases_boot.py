@@ -141,7 +141,7 @@ def recovery_position(page: int, *sizes: int) -> int:
 
 def retired_images() -> List[bytes]:
     """P11 with a second section; then one that is empty, of a byte or two, around one page long,
-    or as long as can be, before sections that are not empty.  The recovery offset is right, or as
+    or as long as can be, the other sections not empty.  The recovery offset is right, or as
     if the second section took no room; there are just enough bytes, where they are few, and one
     less.  Each image stands once: version 0 has no offset, and both are right where it is empty."""
     images = [build.boot_image(2, 8193, kernel=2048, ramdisk=1, second=1, dtb=1)]

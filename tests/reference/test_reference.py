@@ -720,7 +720,7 @@ class TestBoot(unittest.TestCase):
             self.check(other[:8196], 26)
 
     def test_offered_sections(self) -> None:
-        """Those of 01's table, but for the second, in every version, empty or not."""
+        """Those of 01's table in every version, but for the second, whether that is empty or not."""
         names = (
             ["kernel", "ramdisk"],
             ["kernel", "ramdisk", "recovery"],

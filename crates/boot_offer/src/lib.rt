@@ -1,5 +1,5 @@
-// What of the sections of a boot image is offered to callers: all but the retired one, of which is only said whether it
-// is present, which is when its size is not 0.
+// What of the sections of a boot image is offered to callers: all but the retired one. Of that one it is only said
+// whether it is present: whether its size is not 0.
 use boot_rules::Layout;
 use boot_rules::Rooms;
 ghost use mathlib.Core.Path.{_≡_};

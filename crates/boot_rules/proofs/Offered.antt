@@ -1,4 +1,4 @@
--- What is offered of a boot image: the sections of each version, computed over the table, and when a retired one is told.
+-- What is offered of a boot image: the sections of each version, computed over the table, and when a retired one is told of.
 -- Assumes nothing.
 use mathlib.Core.Path.{_≡_, refl, sym, ap, _∙_}
 use mathlib.Core.Bool.{Bool, true, false, _||_, not}
@@ -50,7 +50,7 @@ lacked-from-3 s (suc (suc (suc zero))) h = refl
 lacked-from-3 s (suc (suc (suc (suc zero)))) h = refl
 lacked-from-3 s (suc (suc (suc (suc (suc v))))) h = refl
 
--- a retired section is told exactly when it is not empty
+-- a retired section is told of exactly when it is not empty
 pub retired-told : RetiredTold
 retired-told s l e = record { present = full; empty = none; never = λ z. none (lacked-from-3 s (versionOf s) (omega (arith, version, z))) }
   where

@@ -1,5 +1,6 @@
--- The sections of an accepted image do not overlap, lie inside the input, begin at multiples of the page and stand in
--- their order: one proof over the list of size fields. Assumes nothing.
+-- The rooms of the sections of an accepted image do not overlap, lie inside the input, begin at multiples of the page and
+-- stand in their order: one proof over the list of size fields. Those that are offered are these without the retired one,
+-- so the same holds of them, and they share no byte with it. Assumes nothing.
 use mathlib.Core.Path.{_≡_, refl, subst}
 use mathlib.Core.Bool.{Bool, true, false}
 use mathlib.Core.List.{List, [], _∷_}

@@ -11,7 +11,7 @@ use Rattle.boot_rules.specs.Sections.{rowIn}
 use Rattle.boot_rules.specs.Table.{SectionKind, field, has, number, rowOf, sectionKinds}
 use Rattle.boot_rules.specs.Tests.{answer}
 
--- what a version makes of a kind of section: it lacks it, it has it and it is offered, or it has it and it is retired
+-- what a version makes of a kind of section: it lacks the section, has it offered, or has it retired
 pub data Standing : Type 0 where
   lacked : Standing
   offered : Standing

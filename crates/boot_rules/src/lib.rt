@@ -50,7 +50,7 @@ pub struct Section {
     pub size: u32,
 }
 
-// The room that each section of an image takes, in their order, the retired one's too.
+// The rooms that the sections of an image take, in their order, the retired one's among them.
 pub struct Rooms {
     pub kernel: Section,
     pub ramdisk: Section,

@@ -1,4 +1,4 @@
--- What the proof of the layout cites: the numbers of its sections.
+-- What the proof of the layout cites: its numbers.
 -- Assumes nothing.
 use mathlib.Core.Path.{_≡_}
 use mathlib.Core.List.{List, [], _∷_}

@@ -1,4 +1,4 @@
--- The worked examples P1 to P14, those of requests 4 to 7 and of request 10 and the lister's texts, computed together: every call of the table gives back what its row says.
+-- The worked examples P1 to P14, those of requests 4 to 7 and 10, and the lister's texts, computed together: every call of the table gives back what its row says.
 -- Assumes nothing.
 use mathlib.Core.Path.{refl}
 use lib.Count.{ones, onesIn}

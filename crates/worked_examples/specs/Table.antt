@@ -79,7 +79,7 @@ row11 =
       result = located (accepted (layout 2 (section 2048 2048) (section 4096 1) (section 6144 0) (section 6144 1) none false));
     }
 
--- request 10: P11 with a second section of one byte, "accepted as before, with the later sections in the same places": one page on
+-- request 10: P11 with a second section of one byte, "accepted as before, with the later sections in the same places": recovery and dtb one page after those of P11
 abbrev pub rowRetired : Row
 rowRetired =
     record {

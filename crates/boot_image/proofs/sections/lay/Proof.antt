@@ -1,4 +1,4 @@
--- `boot_image::sections::lay` meets its contract: three steps from where the first three sections end. Assumes nothing.
+-- `boot_image::sections::lay` meets its contract: three steps from where the fourth section begins. Assumes nothing.
 use native.Mathlib.Omega.{arith}
 use lib.Dec.{lit<}
 use borrow.Author.Needs.{needs}
