@@ -200,6 +200,12 @@ void say_only_json_number(const char *name, uint64_t value)
         say_number(name, value);
 }
 
+void say_only_json_flag(const char *name, bool set)
+{
+    if (answer.json)
+        say_flag(name, set);
+}
+
 void end_line(void)
 {
     if (answer.json)
@@ -240,6 +246,11 @@ void close_item(void)
 {
     close_bracket();
     end_line();
+}
+
+void close_only_json_item(void)
+{
+    close_bracket();
 }
 
 void close_list(void)

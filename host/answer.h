@@ -42,12 +42,14 @@ void say_hex_or_none(const char *name, uint32_t value);
 void say_line(const char *line);
 void say_only_json(const char *name, const char *text);
 void say_only_json_number(const char *name, uint64_t value);
+void say_only_json_flag(const char *name, bool set);
 void end_line(void);
 
-/* A list of items, each with members; in text each item is a line. */
+/* A list of items, each with members; in text each item is a line, but for one that only the object has. */
 void open_list(const char *name);
 void open_item(void);
 void close_item(void);
+void close_only_json_item(void);
 void close_list(void);
 
 /* Ends the answer; the status to leave with. */

@@ -28,6 +28,7 @@ enum status map(const struct request *request);
 enum status diff(const struct request *request);
 enum status join(const struct request *request);
 enum status sections(const struct request *request);
+enum status rules(const struct request *request);
 enum status slots(const struct request *request);
 
 /* A decimal number up to `most`. */

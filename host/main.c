@@ -48,6 +48,12 @@ static const struct command {
      "prints the version of a boot image, then name, position and size of each\n"
      "          section that is offered; last, where it carries a second-stage loader, which is\n"
      "          not offered, `retired section present`"},
+    {"rules", 1, 3, 0, rules,
+     "rules BOOT-IMAGE\n"
+     "       tarpaulark rules BOOT-IMAGE RELEASE plain | generic",
+     "says which boards take a boot image, by launch release, 8 to 13, and by kernel, plain or\n"
+     "          generic: a line for each such pair, as `12 plain`, then why other pairs do not take\n"
+     "          it; of one pair, RELEASE and kernel, whether it does, and then what sections prints"},
     {"slots", 2, 3, 0, slots,
      "slots RECORD fresh COUNT\n"
      "       tarpaulark slots RECORD start | confirm\n"

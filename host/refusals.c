@@ -33,6 +33,9 @@ static const char *const meaning[] = {
     [TARPAULARK_BAD_RECORD] = "invalid slot record, or a fresh record for a number of slots not 1 to 4",
     [TARPAULARK_BAD_SLOT] = "slot past d or not in use",
     [TARPAULARK_BAD_CONFIRM] = "confirming an unbootable or corrupted slot",
+    [TARPAULARK_BAD_RELEASE] = "the plain kernel goes with releases 8 to 13, the generic one with 11 to 13",
+    [TARPAULARK_BAD_RELEASE_VERSION] = "header version not allowed for the release with that kernel",
+    [TARPAULARK_BAD_RELEASE_OS] = "os version not 0, as it must be for the release with that kernel",
 };
 
 const char *refusal_meaning(uint32_t number)

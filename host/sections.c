@@ -1,4 +1,6 @@
 /* The sections of a boot image. */
+#include "sections.h"
+
 #include "chunks.h"
 #include "commands.h"
 
@@ -12,16 +14,10 @@ static void say_retired(bool present)
     end_line();
 }
 
-enum status sections(const struct request *request)
+void say_sections(const uint64_t answer[TARPAULARK_LOCATE_ANSWER])
 {
     static const char *const names[] = {"kernel", "ramdisk", "recovery", "dtb", "signature"};
-    uint64_t answer[TARPAULARK_LOCATE_ANSWER];
-    struct mapped image = read_image(request->words[0]);
-    uint32_t number = tarpaulark_locate(image.at, image.length, answer);
 
-    expect_read(&image);
-    if (number != 0)
-        return refuse(number, 0);
     say_number("version", answer[TARPAULARK_VERSION_AT]);
     end_line();
     open_list("sections");
@@ -38,5 +34,17 @@ enum status sections(const struct request *request)
     }
     close_list();
     say_retired(answer[TARPAULARK_RETIRED_AT] != 0);
+}
+
+enum status sections(const struct request *request)
+{
+    uint64_t answer[TARPAULARK_LOCATE_ANSWER];
+    struct mapped image = read_image(request->words[0]);
+    uint32_t number = tarpaulark_locate(image.at, image.length, answer);
+
+    expect_read(&image);
+    if (number != 0)
+        return refuse(number, 0);
+    say_sections(answer);
     return DONE;
 }

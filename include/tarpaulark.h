@@ -1,7 +1,8 @@
 /*
  * Tarpaulark: judges and stores Android sparse images, whole or as they arrive in
  * pieces, compares two of them, joins two into one, writes them from flat bytes,
- * finds the sections of a boot image, and keeps the slot record.
+ * finds the sections of a boot image, says whether a board launched with a release
+ * takes it, and keeps the slot record.
  *
  * Every function takes any input and always ends. It returns 0, or the number of
  * the first refusal that applies, and fills the lent array `answer`, whose length
@@ -40,7 +41,7 @@
  * and library go together: a library before 0.10.0 writes two numbers past an array of
  * 17, and code compiled with an older header, or with numbers in place of the names
  * below, looks for recovery, dtb and signature in the wrong entries and reads two that
- * no call fills: compile it anew, with the names.
+ * no call fills: compile it anew, with the names. 0.11.0 only adds to 0.10.0.
  *
  * Where it runs
  *
@@ -90,7 +91,7 @@
 #include <stdint.h>
 
 /* The version of the header, the library and the host tool; it stands only here. */
-#define TARPAULARK_VERSION "0.10.0"
+#define TARPAULARK_VERSION "0.11.0"
 
 /* Lengths of the answers, of a slot record and each slot in it, of the state of a
    pass, and of a run in numbers. */
@@ -132,11 +133,15 @@
 #define TARPAULARK_JOIN_LENGTH_BOUND(first_len, second_len) \
     (4 * ((uint64_t)(first_len) + (uint64_t)(second_len)))
 
+/* The launch releases that there are rules for: these two, and those between. */
+#define TARPAULARK_FIRST_RELEASE 8
+#define TARPAULARK_LAST_RELEASE 13
+
 /*
  * Refusals. Tests run in the order listed, but for 13 before 12, 27 before 26, and
  * for a pass 16, 14, 15 before all others; for compare and join the first image's
- * own, the second's own, 17, 18. Chunks are tested in order, each fully before the
- * next.
+ * own, the second's own, 17, 18; for a launch release 41 before the boot image's own.
+ * Chunks are tested in order, each fully before the next.
  *
  * A sparse refusal carries a place: 0 for numbers 1 to 6, the chunk's offset for
  * 7, 8 and a passed total, the offset after the header and all chunks for a short
@@ -206,7 +211,15 @@ enum tarpaulark_refusal {
     /* slot past d or not in use (set active, modified, corrupted) */
     TARPAULARK_BAD_SLOT = 32,
     /* confirming an unbootable or corrupted slot */
-    TARPAULARK_BAD_CONFIRM = 33
+    TARPAULARK_BAD_CONFIRM = 33,
+    /* release not 8 to 13, kernel neither of the two, or the generic kernel before
+       release 11 (before 21) */
+    TARPAULARK_BAD_RELEASE = 41,
+    /* the release, with that kernel, does not take the boot image's header version
+       (after 21 to 27) */
+    TARPAULARK_BAD_RELEASE_VERSION = 42,
+    /* os version not 0 where the release, with that kernel, wants 0 (after 42) */
+    TARPAULARK_BAD_RELEASE_OS = 43
 };
 
 /* Positions in the answers of judge, store, a pass, store_limited and write. The
@@ -266,9 +279,9 @@ enum {
     TARPAULARK_DIFFERENT = 4    /* both do, each block with other bytes */
 };
 
-/* Positions in the answer of locate: the version; then section number s has its
-   three numbers from TARPAULARK_SECTION(s) on; last, whether a retired section is
-   present. */
+/* Positions in the answers of locate and locate_for: the version; then section number s
+   has its three numbers from TARPAULARK_SECTION(s) on; last, whether a retired section
+   is present. */
 enum {
     TARPAULARK_VERSION_AT = 0,
     TARPAULARK_RETIRED_AT = 16,
@@ -284,6 +297,12 @@ enum {
     TARPAULARK_SIGNATURE = 4
 };
 #define TARPAULARK_SECTION(s) (1 + 3 * (s))
+
+/* Kernels that a board is launched with. */
+enum {
+    TARPAULARK_PLAIN_KERNEL = 0,
+    TARPAULARK_GENERIC_KERNEL = 1
+};
 
 /* Positions in a slot record: slot number k, 0 for a, has its five bytes from
    TARPAULARK_RECORD_SLOT * k on; after all four stand the current slot and the
@@ -590,6 +609,35 @@ uint32_t tarpaulark_pass_store_finish(
  */
 uint32_t tarpaulark_locate(
     const uint8_t *image, size_t image_len, uint64_t answer[TARPAULARK_LOCATE_ANSWER]);
+
+/*
+ * Finds the sections of a boot image for a board that was launched with a release, and
+ * with one of the two kernels, TARPAULARK_PLAIN_KERNEL or TARPAULARK_GENERIC_KERNEL:
+ * release and kernel say which header versions are taken. Reads the image.
+ *
+ *    release  plain kernel  generic kernel
+ *     8       0             no such pair: 41
+ *     9       1             no such pair: 41
+ *    10       2             no such pair: 41
+ *    11       3             3
+ *    12       3 and 4       4
+ *    13       3 and 4       4, with an os version of 0
+ *
+ * Release and kernel may be any numbers, and are taken whole, as 32 bits: a release that
+ * is not 8 to 13, and a kernel that is neither of the two, give 41.
+ *
+ * The os version is the whole field of 32 bits, at 44 in an image of version 0 to 2 and at
+ * 16 in one of version 3 or 4. Release 13 with the generic kernel wants 0 there; for all
+ * others it may be anything.
+ *
+ * Refusals, in this order: 41; those of tarpaulark_locate, 21, 22, 23, 21, 24, 25, 27, 26;
+ * 42; 43.
+ * answer: as for tarpaulark_locate: where the image is taken, its sections are the same
+ * and stand where they stand without a release. After a refusal all are 0.
+ */
+uint32_t tarpaulark_locate_for(
+    const uint8_t *image, size_t image_len, uint32_t release, uint32_t kernel,
+    uint64_t answer[TARPAULARK_LOCATE_ANSWER]);
 
 /*
  * The slot record: TARPAULARK_RECORD bytes. For the slots a, b, c and d in turn

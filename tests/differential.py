@@ -33,10 +33,12 @@ from typing import (
 HERE = os.path.dirname(os.path.abspath(__file__))
 sys.path.insert(0, os.path.join(HERE, "reference"))
 
+import boot
 import build
 import cases_boot
 import cases_compare
 import cases_join
+import cases_launch
 import cases_passes
 import cases_slots
 import cases_sparse
@@ -45,6 +47,7 @@ import cases_write
 import compare
 import fields
 import join
+import launch
 import passes
 import sparse
 import store
@@ -425,10 +428,10 @@ def output_length(rng: random.Random, first: bytes, second: bytes) -> int:
     return max(0, pick(rng, (near,) * 12 + (min(bound, LARGEST_LENT), 0, below(rng, 400))))
 
 
-def boot_input(rng: random.Random) -> bytes:
-    """A boot image, whole or damaged, or with another number where versions 0 to 2 have the size of
-    the second section; or bytes that are none."""
-    image = cases_boot.random_image(rng)
+def boot_input(rng: random.Random, **given: int) -> bytes:
+    """A boot image with the fields that are given, whole or damaged, or with another number where
+    versions 0 to 2 have the size of the second section; or bytes that are none."""
+    image = cases_boot.random_image(rng, **given)
     kind = below(rng, 9)
     if kind == 0:
         return some_bytes(rng, below(rng, 90))
@@ -557,12 +560,26 @@ def join_call(rng: random.Random) -> Call:
     return Call((first, second, output), number, tuple(out), (first, second, after))
 
 
+def located(answer: Union[boot.Located, boot.Refusal], image: bytes, *numbers: int) -> Call:
+    """A call that locates an image's sections, by the image and some numbers."""
+    number, *out = cases_boot.answer_values(answer)
+    return Call((image, *numbers), number, tuple(out), (image,))
+
+
 def locate_call(rng: random.Random) -> Call:
     """`locate`: version, then present, position and size of the five sections, then whether a
     retired one is present."""
     image = boot_input(rng)
-    number, *out = cases_boot.values(image)
-    return Call((image,), number, tuple(out), (image,))
+    return located(boot.locate(image), image)
+
+
+def locate_for_call(rng: random.Random) -> Call:
+    """`locate_for`: as `locate`.  At times the texts hold bytes, which stand in versions 3 and 4
+    where older ones have the os version."""
+    os_version = cases_launch.random_os_version(rng)
+    image = boot_input(rng, os_version=os_version, filler=pick(rng, (0, 0, 1, 255)))
+    release, kernel = cases_launch.random_pair(rng, image)
+    return located(launch.locate_for(image, release, kernel), image, release, kernel)
 
 
 def no_record(rng: random.Random, given: bytes) -> bytes:
@@ -840,6 +857,7 @@ KINDS = (
     single("compare", ("bytes", "bytes", "numbers"), 3, compare_call),
     single("join", ("bytes", "bytes", "bytes"), 3, join_call),
     single("locate", ("bytes",), 17, locate_call),
+    single("locate_for", ("bytes", 32, 32), 17, locate_for_call),
     single("slots_valid", ("record",), 0, valid_call),
     single("slots_startable", ("record",), 1, startable_call),
     single("slots_fresh", (32, "record"), 2, fresh_call),

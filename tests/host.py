@@ -38,10 +38,12 @@ import boot
 import build
 import cases_boot
 import cases_compare
+import cases_launch
 import cases_store
 import compare
 import demo
 import join
+import launch
 import passes
 import sparse
 import store
@@ -154,6 +156,10 @@ FILES: Dict[str, bytes] = {
     "p11": build.boot_image(2, 6145, kernel=2048, ramdisk=1, dtb=1),
     "archived": build.boot_image(2, 8193, kernel=2048, ramdisk=1, second=1, dtb=1),
     "archived-cut": build.boot_image(0, 6145, kernel=2048, ramdisk=1, second=2),
+    "boot0": build.boot_image(0, 4097, kernel=2048, ramdisk=1, os_version=2**32 - 1),
+    "boot1": build.boot_image(1, 4097, kernel=2048, ramdisk=1),
+    "boot4": build.boot_image(4, 8193, kernel=4096, ramdisk=1),
+    "boot4-os": build.boot_image(4, 8193, kernel=4096, ramdisk=1, os_version=0x18000169),
     "odd": record_of("12000"),
     "ends": record_of("10000 10100"),
     "miscounted": record_of("10003 10013", startable=2),
@@ -241,6 +247,24 @@ def changed_alike(kind: str, block: int, total: int) -> str:
     for one in kinds:
         blocks = total if one == kind else 0
         lines.append(f"      total {one:11} {blocks:10} {blocks * block:15}")
+    return "\n".join(lines)
+
+
+# What is said of a boot image and the launch releases: of every pair that does not take it, why.
+LAUNCH_MEANINGS = {
+    41: "the plain kernel goes with releases 8 to 13, the generic one with 11 to 13",
+    42: "header version not allowed for the release with that kernel",
+    43: "os version not 0, as it must be for the release with that kernel",
+}
+NO_PAIRS = "8 generic, 9 generic, 10 generic"
+
+
+def taken_by(version: int, takers: str, others: str, no_os: str = "") -> str:
+    """What is said of an image of a version: the pairs that take it, those that do not take its version, and the one
+    that does not take its os version, each list with commas."""
+    lines = [f"version {version}", *takers.split(", ")]
+    for number, pairs in ((41, NO_PAIRS), (42, others), (43, no_os)):
+        lines += [f"refused {number} for {pairs}: {LAUNCH_MEANINGS[number]}"] * bool(pairs)
     return "\n".join(lines)
 
 
@@ -388,6 +412,62 @@ CASES = (
          "retired section present"),
     Case("sections archived-cut", 1, "refused 26 at 0"),
     Case("sections flat", 1, "refused 21 at 0"),
+    Case("rules boot0", 0, taken_by(0, "8 plain", "9 plain, 10 plain, 11 plain, 11 generic, 12 plain, 12 generic,"
+                                    " 13 plain, 13 generic")),
+    Case("rules boot1", 0, taken_by(1, "9 plain", "8 plain, 10 plain, 11 plain, 11 generic, 12 plain, 12 generic,"
+                                    " 13 plain, 13 generic")),
+    Case("rules p11", 0, taken_by(2, "10 plain", "8 plain, 9 plain, 11 plain, 11 generic, 12 plain, 12 generic,"
+                                  " 13 plain, 13 generic")),
+    Case("rules archived", 0, taken_by(2, "10 plain", "8 plain, 9 plain, 11 plain, 11 generic, 12 plain, 12 generic,"
+                                       " 13 plain, 13 generic")),
+    Case("rules -- boot", 0, taken_by(3, "11 plain, 11 generic, 12 plain, 13 plain",
+                                      "8 plain, 9 plain, 10 plain, 12 generic, 13 generic")),
+    Case("rules boot4", 0, taken_by(4, "12 plain, 12 generic, 13 plain, 13 generic",
+                                    "8 plain, 9 plain, 10 plain, 11 plain, 11 generic")),
+    Case("rules boot4-os", 0, taken_by(4, "12 plain, 12 generic, 13 plain",
+                                       "8 plain, 9 plain, 10 plain, 11 plain, 11 generic", "13 generic")),
+    Case("rules archived-cut", 1, "refused 26 at 0"),
+    Case("rules flat", 1, "refused 21 at 0"),
+    Case("rules none", 1, "refused 21 at 0"),
+    Case("rules boot0 8 plain", 0, "taken by 8 plain\nversion 0\nkernel 2048 2048\nramdisk 4096 1"),
+    Case("rules boot1 9 plain", 0, "taken by 9 plain\nversion 1\nkernel 2048 2048\nramdisk 4096 1\nrecovery 6144 0"),
+    Case("rules archived 10 plain", 0, "taken by 10 plain\nversion 2\nkernel 2048 2048\nramdisk 4096 1\n"
+         "recovery 8192 0\ndtb 8192 1\nretired section present"),
+    Case("rules boot 11 generic", 0, "taken by 11 generic\nversion 3\nkernel 4096 4097\nramdisk 12288 1"),
+    Case("rules boot4 13 generic", 0,
+         "taken by 13 generic\nversion 4\nkernel 4096 4096\nramdisk 8192 1\nsignature 12288 0"),
+    Case("rules boot4-os 013 plain", 0,
+         "taken by 13 plain\nversion 4\nkernel 4096 4096\nramdisk 8192 1\nsignature 12288 0"),
+    Case("rules boot4-os 13 generic", 1, "refused 43 at 0"),
+    Case("rules boot 12 generic", 1, "refused 42 at 0"),
+    Case("rules boot0 9 plain", 1, "refused 42 at 0"),
+    Case("rules boot 10 generic", 1, "refused 41 at 0"),
+    Case("rules boot 7 plain", 1, "refused 41 at 0"),
+    Case("rules boot 14 plain", 1, "refused 41 at 0"),
+    Case("rules boot 268 plain", 1, "refused 41 at 0"),
+    Case("rules boot 4294967295 generic", 1, "refused 41 at 0"),
+    Case("rules flat 10 generic", 1, "refused 41 at 0"),
+    Case("rules flat 10 plain", 1, "refused 21 at 0"),
+    Case("rules archived-cut 13 generic", 1, "refused 26 at 0"),
+    Case("rules", 2, ""),
+    Case("rules boot 12", 2, ""),
+    Case("rules boot plain", 2, ""),
+    Case("rules boot plain 12", 2, ""),
+    Case("rules boot 12 Plain", 2, ""),
+    Case("rules boot 12 plainer", 2, ""),
+    Case("rules boot 12 0", 2, ""),
+    Case("rules boot twelve plain", 2, ""),
+    Case("rules boot 12.0 plain", 2, ""),
+    Case("rules boot 4294967296 plain", 2, ""),
+    Case("rules boot 4294967308 plain", 2, ""),
+    Case("rules boot -- -1 plain", 2, ""),
+    Case("rules boot 12 plain generic", 2, ""),
+    Case("rules boot --map", 2, ""),
+    Case("rules - --length 12289", 2, ""),
+    Case("rules missing 12", 2, ""),
+    Case("rules missing 12 plain", 3, ""),
+    Case("rules missing", 3, ""),
+    Case("rules -", 3, ""),
     Case("slots record fresh 2", 0, "ok"),
     Case("slots record start", 0, "starts a"),
     Case("slots record show", 0, "current a startable 2\na tries 2\nb tries 3"),
@@ -576,6 +656,7 @@ def printed_into_files(tool: Tool) -> None:
     save("tried", TRIED)
     for words, name in (("list p2", "p2"), ("diff p2 p7", "p2"), ("diff p2 p7", "p7"), ("diff p2 p7 --svg p6", "p6"),
                         ("join p2 p7 p6", "p2"), ("join p2 p7 p6", "p7"), ("join p2 p7 p6", "p6"),
+                        ("rules boot", "boot"), ("rules boot 12 plain", "boot"),
                         ("slots tried show", "tried"), ("slots tried start", "tried"),
                         ("write flat 8 p6", "p6"), ("judge - 12 --length 56 <p2", "p2"),
                         ("store - p6 --length 56 <p2", "p6"), ("store - p6 --length 56 <p2", "p2")):
@@ -698,6 +779,9 @@ def locks(tool: Tool) -> None:
             expect_end(tool.run("join p7 p2 image"), status)
             expect_end(tool.run("join p7 p7 p2"), 3, "is busy")
             expect_end(tool.run("write flat 8 p2"), 3, "is busy")
+        with locked("boot", kind):
+            for words in ("sections boot", "rules boot", "rules boot 12 plain"):
+                expect_end(tool.run(words), status)
     expect(read("cut") == FILES["cut"] and read("tried") == TRIED and read("p2") == FILES["p2"], "files while held")
 
 
@@ -755,7 +839,8 @@ def changed_image(tool: Tool) -> None:
     expect(lost["status"] == 3, "an object for a lost file")
     for words in ("judge p2 12", "judge p6 12", "list p2", "map p2", "sections p2", "store p2 cut --dry-run",
                   "store p6 cut --dry-run", "write p2 4 image", "store p2 cut", "store p6 cut", "diff p2 p7",
-                  "diff p6 p7", "join p2 p7 image", "join p6 p7 image"):
+                  "diff p6 p7", "join p2 p7 image", "join p6 p7 image", "rules boot", "rules p2", "rules boot 12 plain",
+                  "rules boot 12 generic", "rules boot 10 generic", "rules boot4-os 13 generic", "rules p2 12 plain"):
         name = words.split()[1]
         save(name, FILES[name])
         expect_end(tool.run(words, GROW=name), 3, "changed while it was")
@@ -763,6 +848,9 @@ def changed_image(tool: Tool) -> None:
     expect_end(tool.run("diff last next", CUT="last"), 3, "to its end")
     expect_end(tool.run("join none p7 image", GROW="p7"), 3, "p7: changed while it was")
     expect_end(tool.run("join under over image", CUT="under"), 3, "to its end")
+    for words in ("rules boot", "rules boot 12 plain", "rules boot 12 generic"):
+        save("boot", FILES["boot"])
+        expect_end(tool.run(words, CUT="boot"), 3, "to its end")
     expect(not os.path.exists("image"), "an image is made of changed ones")
 
 
@@ -809,7 +897,8 @@ def pipes_as_images(tool: Tool) -> None:
     os.mkfifo("pipe")
     for words in ("judge pipe 12", "store pipe cut", "store pipe cut --dry-run", "list pipe", "map pipe",
                   "sections pipe", "write pipe 4096 image", "slots pipe show", "judge /dev/stdin 12",
-                  "diff pipe p2", "diff p2 pipe", "join pipe p2 image", "join p2 pipe image"):
+                  "diff pipe p2", "diff p2 pipe", "join pipe p2 image", "join p2 pipe image", "rules pipe",
+                  "rules pipe 12 plain"):
         expect_end(tool.run(words, "</dev/null" if "stdin" in words else ""), 2)
 
 
@@ -1661,6 +1750,128 @@ def retired_sections(tool: Tool) -> None:
         expect(told["retired"] is found.retired, f"retired {found.retired}, not {told}")
 
 
+def launch_images() -> Iterator[bytes]:
+    """Images of every version, with an os version of 0 and without, and images with each boot refusal."""
+    for version, os_version in itertools.product(range(5), (0, 1, 2**16, 2**31, 2**32 - 1)):
+        yield cases_launch.image_of(version, os_version)
+    yield from cases_boot.example_images()
+    yield from cases_launch.refused_images(0)
+    yield from cases_launch.refused_images(2**32 - 1)
+
+
+def pair_name(release: int, kernel: int) -> str:
+    """A pair as it is printed."""
+    return f"{release} {launch.WORDS[kernel]}"
+
+
+def takers_of(image: bytes) -> List[str]:
+    """The pairs that take an accepted image, by the reference."""
+    return [pair_name(*pair) for pair in cases_launch.PAIRS if launch.locate_for(image, *pair) == boot.locate(image)]
+
+
+def expect_pairs(tool: Tool, image: bytes, version: int) -> None:
+    """What is said of all pairs and an accepted image, which is in `image`: in text the pairs that take it, as the
+    program prints them, then those that give each refusal; in the object each pair."""
+    pairs: List[Dict[str, Any]] = []
+    by_number: Dict[int, List[str]] = {}
+    for release, kernel in cases_launch.PAIRS:
+        answer = launch.locate_for(image, release, kernel)
+        number = answer.number if isinstance(answer, boot.Refusal) else 0
+        by_number.setdefault(number, []).append(pair_name(release, kernel))
+        pair = {"release": release, "kernel": launch.WORDS[kernel], "taken": number == 0}
+        pairs.append(pair if number == 0 else {**pair, "number": number, "meaning": LAUNCH_MEANINGS[number]})
+    lines = [f"version {version}", *by_number.pop(0)]
+    lines += [f"refused {number} for {', '.join(by_number[number])}: {LAUNCH_MEANINGS[number]}"
+              for number in sorted(by_number)]
+    done, told = tool.run("rules image"), json.loads(tool.run("rules image --json").stdout)
+    expect(done.returncode == 0 and done.stdout.split("\n") == lines + [""] and not done.stderr, f"{lines}", done)
+    expect(told == {"command": "rules", "version": version, "pairs": pairs, "result": "ok", "status": 0}, f"{told}")
+
+
+def rules_as_the_reference(tool: Tool) -> None:
+    """The pairs that take an image, and why the others do not, are those of the reference; an image that is refused
+    without a release is refused in the same words. An image longer than the program reads is none of that."""
+    for image in launch_images():
+        save("image", image)
+        found = boot.locate(image)
+        if isinstance(found, boot.Refusal):
+            done, plain = tool.run("rules image"), tool.run("sections image")
+            expect_end(done, 1, f"refused {found.number} at 0\n")
+            expect((done.stdout, done.stderr) == (plain.stdout, plain.stderr), f"{found}: the words", done)
+            told, plain = (json.loads(tool.run(f"{words} image --json").stdout) for words in ("rules", "sections"))
+            expect({**told, "command": "sections"} == plain, f"{told}, not {plain}")
+            continue
+        expect(launch.text(image) == "".join(name + "\n" for name in takers_of(image)), "the program's lines")
+        expect_pairs(tool, image, found.version)
+    image = build.boot_image(4, 70000, kernel=65000, os_version=1)
+    save("image", image)
+    expect(launch.text(image) == "too long\n", "an image that the program does not read")
+    expect_pairs(tool, image, 4)
+
+
+def found_in(image: bytes, number: int) -> str:
+    """What is said of an image after a refusal that the release gives; nothing after any other."""
+    if number not in (42, 43):
+        return ""
+    version = image[boot.VERSION_AT]
+    os_version = boot.read_os_version(image, boot.TABLE[version])
+    has = f"header version {version}" if number == 42 else f"os version 0x{os_version:08x}"
+    return f"this image has {has} and is taken by {', '.join(takers_of(image))}"
+
+
+def expect_asked(tool: Tool, image: bytes, release: int, kernel: int) -> None:
+    """What is said of one pair and the image, which is in `image`: the sections as without it, or its refusal."""
+    words = f"rules image {pair_name(release, kernel)}"
+    done, told = tool.run(words), json.loads(tool.run(words + " --json").stdout)
+    answer = launch.locate_for(image, release, kernel)
+    if isinstance(answer, boot.Refusal):
+        found = found_in(image, answer.number)
+        lines = [f"refused {answer.number} at 0", told["meaning"]] + [found] * bool(found)
+        expect(done.returncode == 1 and done.stderr.split("\n") == lines + [""] and not done.stdout, words, done)
+        expect((told["number"], told["place"], told.get("found", "")) == (answer.number, 0, found), f"{told}")
+        expect(told["meaning"] == LAUNCH_MEANINGS.get(answer.number, told["meaning"]), f"{told}")
+        return
+    plain, sections = tool.run("sections image"), json.loads(tool.run("sections image --json").stdout)
+    taken = f"taken by {pair_name(release, kernel)}\n"
+    expect(done.returncode == 0 and done.stdout == taken + plain.stdout and not done.stderr, words, done)
+    pair = {"command": "rules", "release": release, "kernel": launch.WORDS[kernel]}
+    expect(told == {**sections, **pair}, f"{words}: {told}, not {sections}")
+
+
+def asked_as_the_reference(tool: Tool) -> None:
+    """What each pair says of images, and pairs that there are not, is what the reference says."""
+    releases = (0, 7, *cases_launch.RELEASES, 14, 255, 256 + 12, 2**32 - 1)
+    for version, os_version in itertools.product(range(5), (0, 1)):
+        image = cases_launch.image_of(version, os_version)
+        save("image", image)
+        for release, kernel in itertools.product(releases if os_version else cases_launch.RELEASES, launch.WORDS):
+            expect_asked(tool, image, release, kernel)
+    for image in cases_launch.refused_images(1):
+        save("image", image)
+        for pair in ((8, launch.PLAIN), (13, launch.GENERIC), (10, launch.GENERIC), (14, launch.PLAIN)):
+            expect_asked(tool, image, *pair)
+
+
+def same_table(_tool: Tool) -> None:
+    """The header and the man page have the table of the reference: what each release takes with either kernel."""
+    rows = ["release plain kernel generic kernel"]
+    for release in cases_launch.RELEASES:
+        row = [str(release)]
+        for kernel in launch.WORDS:
+            rule = launch.RULES.get((release, kernel))
+            taken = " and ".join(map(str, rule.versions)) if rule else "no such pair: 41"
+            row.append(taken + ", with an os version of 0" * bool(rule and rule.wants_no_os_version))
+        rows.append(" ".join(row))
+    man = text_of_man(read(os.path.join(ROOT, "host", "tarpaulark.1")).decode("ascii"))
+    header = read(os.path.join(ROOT, "include", "tarpaulark.h")).decode("ascii")
+    for name, text in (("the man page", man), ("the header", " ".join(re.sub(r"(?m)^ \*", "", header).split()))):
+        expect(" ".join(rows) in text, f"{name} lacks {rows}")
+    numbers = dict(re.findall(r"(TARPAULARK_\w+)(?: =)? ([0-9]+)", header))
+    found = [int(numbers[f"TARPAULARK_{name}"]) for name in ("FIRST_RELEASE", "LAST_RELEASE", "PLAIN_KERNEL",
+                                                           "GENERIC_KERNEL")]
+    expect(found == [cases_launch.RELEASES[0], cases_launch.RELEASES[-1], launch.PLAIN, launch.GENERIC], f"{found}")
+
+
 # The slot record.
 
 # An operation, the record before it, what it says, and the record after it.
@@ -1903,7 +2114,7 @@ def old_of_any_bytes(_tool: Tool) -> None:
 
 def help_and_version(tool: Tool) -> None:
     """Help and version go to standard output."""
-    for words in ("--help", "-h", "store --help", "slots -h"):
+    for words in ("--help", "-h", "store --help", "slots -h", "rules --help"):
         done = tool.run(words)
         expect(done.returncode == 0 and "Exit status: 0 done" in done.stdout and not done.stderr, words, done)
     header = read(os.path.join(ROOT, "include", "tarpaulark.h")).decode("ascii")
@@ -1929,7 +2140,7 @@ def same_words(tool: Tool) -> None:
     told = tool.run("--help").stdout
     usages = re.findall(r"^ *(?:usage:)? tarpaulark (.*)$", told, re.MULTILINE)
     statuses = re.findall(r"^(?:Exit status:)? +([0-4]) (.*)$", told, re.MULTILINE)
-    expect(len(usages) == 14 and len(statuses) == 5, f"the help {told}")
+    expect(len(usages) == 16 and len(statuses) == 5, f"the help {told}")
     man = text_of_man(read(os.path.join(ROOT, "host", "tarpaulark.1")).decode("ascii"))
     readme = read(os.path.join(ROOT, "README.md")).decode("utf-8")
     for usage in usages:
@@ -1956,6 +2167,8 @@ def not_printed(tool: Tool) -> None:
     expect_end(tool.run("list p2 --json", ">/dev/full"), 4)
     for more in ("", " --json", " --map"):
         expect_end(tool.run(f"diff last next{more}", ">/dev/full"), 4)
+    for words in ("rules boot", "rules boot --json", "rules boot 12 plain"):
+        expect_end(tool.run(words, ">/dev/full"), 4)
     expect_end(tool.run("join last next image", ">/dev/full"), 4, "what was asked is done")
     expect(read("image") == JOINED, "what was asked of join")
     process = tool.begin("list kinds")
@@ -1990,7 +2203,9 @@ def same_in_json(tool: Tool) -> None:
                   "diff nothing nothing", "diff p6 p2", "diff p2 kinds", "join last next image", "join p7 p8 image",
                   "join p6 p2 image", "join p2 kinds image", "join too-much too-much image",
                   "write flat 8 image", "write flat 12 image", "sections boot", "sections flat",
-                  "sections archived", "sections archived-cut",
+                  "sections archived", "sections archived-cut", "rules boot0", "rules archived", "rules boot4-os",
+                  "rules archived-cut", "rules boot 12 plain", "rules archived 10 plain", "rules boot 12 generic",
+                  "rules boot4-os 13 generic", "rules boot 14 plain",
                   "slots tried show", "slots odd show", "slots old17 show", "slots old21 show", "slots tried status",
                   "slots miscounted status", "slots tried corrupted a", "slots tried fresh 5", "slots tried fresh 3"):
         text, told = tool.run(words), tool.run(words + " --json")
@@ -2004,7 +2219,8 @@ def same_in_json(tool: Tool) -> None:
         said = [int(number, 0) for number in re.findall(r"\b(?:0x[0-9a-f]+|[0-9]+)\b", lines)]
         missing = set(said) - set(numbers_in(found))
         expect(not missing, f"{words}: the object lacks {missing}", told)
-    for words, status in (("judge missing 1 --json", 3), ("judge --json", 2), ("--json", 2), ("x --json", 2)):
+    for words, status in (("judge missing 1 --json", 3), ("judge --json", 2), ("--json", 2), ("x --json", 2),
+                          ("rules boot 12 --json", 2), ("rules boot x plain --json", 2), ("rules missing --json", 3)):
         told = tool.run(words)
         expect(json.loads(told.stdout)["status"] == told.returncode == status and not told.stderr, words, told)
     expect(json.loads(tool.run("slots tried start --json").stdout)["slot"] == "a", "a start")
@@ -2144,7 +2360,7 @@ CHECKS: Tuple[Callable[[Tool], None], ...] = (
     compared_in_svg, compared_at_length, no_memory,
     joined_as_the_reference, joined_in_groups, joins_refused, told_of_geometry, joined_vast, joined_at_length,
     joined_in_little_room, unknown_joined, joined_over_links,
-    retired_sections,
+    retired_sections, rules_as_the_reference, asked_as_the_reference, same_table,
     slot_turns, flags_shown, states_in_words, counts_in_words, wrong_counts, old_records, other_lengths, old_made_new,
     old_of_any_bytes,
     help_and_version, same_words, not_printed, same_in_json, as_the_reference, names_of_any_bytes,

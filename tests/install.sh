@@ -26,7 +26,9 @@ grep -q "tarpaulark $version" "$root/share/man/man1/tarpaulark.1" || die "the ma
 # compared: the runs, of a block and of two, stand where the header says. Joined they are the second, whose blocks are all
 # written, with its length where the header says; a byte less is too short, and nothing past it is touched. A boot image
 # of version 2 has its sections where the header says, and last whether a retired one is present, with and without one;
-# nothing past the answer is touched, and an input that is too short is refused.
+# nothing past the answer is touched, and an input that is too short is refused. Of the launch releases only 10 takes it,
+# with the plain kernel, and answers the same; of version 4 the last one takes it with the generic kernel where the os
+# version is 0.
 cat >"$folder/use.c" <<'END_C'
 #include <tarpaulark.h>
 
@@ -117,6 +119,52 @@ static int has_sections(const uint64_t *answer, uint64_t retired, uint64_t last)
         && stands(answer + TARPAULARK_SECTION(TARPAULARK_SIGNATURE), 0, 0, 0);
 }
 
+/* The refusal, or 0 where there is none or it leaves something in the answer. */
+static uint32_t locate_for(const uint8_t *image, size_t length, uint32_t release, uint32_t kernel, uint64_t *answer)
+{
+    uint32_t number = tarpaulark_locate_for(image, length, release, kernel, answer);
+    size_t i;
+
+    for (i = 0; number != 0 && i < TARPAULARK_LOCATE_ANSWER; i++)
+        if (answer[i] != 0)
+            return 0;
+    return number;
+}
+
+static int use_releases(const uint8_t *image, size_t length, uint64_t *answer)
+{
+    const uint32_t first = TARPAULARK_FIRST_RELEASE, last = TARPAULARK_LAST_RELEASE;
+    const uint32_t plain = TARPAULARK_PLAIN_KERNEL, generic = TARPAULARK_GENERIC_KERNEL;
+
+    if (locate_for(image, length, first - 1, plain, answer) != TARPAULARK_BAD_RELEASE
+        || locate_for(image, length, last + 1, plain, answer) != TARPAULARK_BAD_RELEASE
+        || locate_for(image, length, last, generic + 1, answer) != TARPAULARK_BAD_RELEASE
+        || locate_for(image, length, 10, generic, answer) != TARPAULARK_BAD_RELEASE
+        || locate_for(image, length - 1, 10, plain, answer) != TARPAULARK_BAD_BOOT_END
+        || locate_for(image, length, first, plain, answer) != TARPAULARK_BAD_RELEASE_VERSION
+        || locate_for(image, length, last, generic, answer) != TARPAULARK_BAD_RELEASE_VERSION)
+        return 1;
+    return tarpaulark_locate_for(image, length, 10, plain, answer) != 0 || !has_sections(answer, 1, 8192)
+        || answer[TARPAULARK_LOCATE_ANSWER] != 77;
+}
+
+static int use_os_version(void)
+{
+    static uint8_t image[1584] = "ANDROID!";
+    uint64_t answer[TARPAULARK_LOCATE_ANSWER];
+
+    image[19] = 1;
+    image[20] = 1584 % 256;
+    image[21] = 1584 / 256;
+    image[40] = 4;
+    if (locate_for(image, sizeof image, 13, TARPAULARK_GENERIC_KERNEL, answer) != TARPAULARK_BAD_RELEASE_OS
+        || tarpaulark_locate_for(image, sizeof image, 13, TARPAULARK_PLAIN_KERNEL, answer) != 0)
+        return 1;
+    image[19] = 0;
+    return tarpaulark_locate_for(image, sizeof image, 13, TARPAULARK_GENERIC_KERNEL, answer) != 0
+        || answer[TARPAULARK_VERSION_AT] != 4;
+}
+
 static int use_boot(void)
 {
     static const uint16_t bytes[][2] = {
@@ -131,7 +179,7 @@ static int use_boot(void)
     answer[TARPAULARK_LOCATE_ANSWER] = 77;
     if (tarpaulark_locate(image, sizeof image, answer) != 0 || !has_sections(answer, 1, 8192)
         || tarpaulark_locate(image, sizeof image - 1, answer) != TARPAULARK_BAD_BOOT_END
-        || answer[TARPAULARK_RETIRED_AT] != 0)
+        || answer[TARPAULARK_RETIRED_AT] != 0 || use_releases(image, sizeof image, answer) || use_os_version())
         return 1;
     image[24] = 0;
     return tarpaulark_locate(image, sizeof image, answer) != 0 || !has_sections(answer, 0, 6144)

@@ -10,10 +10,8 @@ first difference it shows that one instead and ends with 1.
 import itertools
 import os
 import random
-import subprocess
 import sys
-import time
-from typing import List, NamedTuple, Optional, Sequence
+from typing import List
 
 HERE = os.path.dirname(os.path.abspath(__file__))
 sys.path.insert(0, os.path.join(HERE, "reference"))
@@ -22,21 +20,14 @@ import build
 import cases_sparse
 import cases_store
 import lister
+import programs
 from build import ChunkPlan
+from programs import Test
 
 SEED = 20240902
 DEFAULT_PROGRAM = os.path.join("target", "bin", "simg_list")
 LONGEST = lister.LONGEST_IMAGE
 BLOCKS_OF_4 = lister.PARTITION_LENGTH // 4
-LONGEST_WAIT = 60
-SHOWN = 96
-
-
-class Answer(NamedTuple):
-    """What the program wrote, and the code it ended with."""
-
-    output: bytes
-    code: int
 
 
 def many_chunks(count: int) -> List[ChunkPlan]:
@@ -121,72 +112,10 @@ def inputs() -> List[bytes]:
     return list(dict.fromkeys(found + [case.image for case in cases]))
 
 
-def answer_at_once(program: str, image: bytes) -> Answer:
-    """The program's answer when all its input is there at once."""
-    done = subprocess.run(
-        [program], input=image, stdout=subprocess.PIPE, timeout=LONGEST_WAIT, check=False
-    )
-    return Answer(done.stdout, done.returncode)
-
-
-def answer_in_pieces(program: str, pieces: Sequence[bytes]) -> Answer:
-    """The program's answer when its input comes in pieces, with a pause after each."""
-    with subprocess.Popen([program], stdin=subprocess.PIPE, stdout=subprocess.PIPE) as process:
-        assert process.stdin is not None
-        try:
-            for piece in pieces:
-                process.stdin.write(piece)
-                process.stdin.flush()
-                time.sleep(0.01)
-        except BrokenPipeError:
-            pass
-        output, _ = process.communicate(timeout=LONGEST_WAIT)
-        return Answer(output, process.returncode)
-
-
-def difference(image: bytes, answer: Answer) -> Optional[str]:
-    """What is wrong with an answer: another text, or an end by a signal."""
-    expected = lister.listing(image).encode("ascii")
-    if answer.output == expected and answer.code >= 0:
-        return None
-    return "\n".join((
-        f"lister: input of {len(image)} bytes, from {image[:SHOWN].hex()}",
-        f"expected {expected[:SHOWN]!r} ({len(expected)} bytes)",
-        f"found    {answer.output[:SHOWN]!r} ({len(answer.output)} bytes, code {answer.code})",
-    ))
-
-
-def in_pieces(image: bytes) -> List[bytes]:
-    """An input as a few pieces, the first of one byte, none of them a whole field."""
-    size = max(1, len(image) // 5 | 1)
-    return [image[:1]] + [image[at:at + size] for at in range(1, len(image), size)]
-
-
-def first_fault(program: str, images: Sequence[bytes], slow: Sequence[bytes]) -> Optional[str]:
-    """The first difference, over inputs given at once, then over those in pieces."""
-    for image in images:
-        fault = difference(image, answer_at_once(program, image))
-        if fault is not None:
-            return fault
-    for image in slow:
-        fault = difference(image, answer_in_pieces(program, in_pieces(image)))
-        if fault is not None:
-            return fault
-    return None
-
-
-def main() -> int:
-    """Runs all inputs; 1 at the first difference."""
-    program = os.path.abspath(sys.argv[1] if len(sys.argv) > 1 else DEFAULT_PROGRAM)
-    if not os.access(program, os.X_OK):
-        print(f"lister: no program {program}")
-        return 1
-    images = inputs()
-    slow = [build.two_chunks(), build.sparse_image(4, many_chunks(99))] + long_images()
-    fault = first_fault(program, images, slow)
-    print(fault or f"lister: {len(images) + len(slow)} inputs agree")
-    return 1 if fault else 0
+def slow_inputs() -> List[bytes]:
+    """The inputs that come in pieces."""
+    return [build.two_chunks(), build.sparse_image(4, many_chunks(99))] + long_images()
 
 
 if __name__ == "__main__":
-    sys.exit(main())
+    sys.exit(programs.run(Test("lister", DEFAULT_PROGRAM, lister.listing, inputs, slow_inputs)))

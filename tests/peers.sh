@@ -11,6 +11,7 @@ small_blocks=(4 64 256)
 blocks=(1024 1028 4096 5000 65536)
 pages=(2048 4096 8192 16384)
 header_lengths=(1632 1648 1660 1580 1584)
+takers=('8 plain' '9 plain' '10 plain' '11 plain,11 generic,12 plain,13 plain' '12 plain,12 generic,13 plain,13 generic')
 declare -A came_out=([agrees]=0 [24]=0)
 failed=0
 
@@ -229,6 +230,13 @@ same_sections() {
     [ "${names[*]}" = "${want[*]}" ]
 }
 
+# The releases and kernels that take boot are those of its version; it was made without an os version, so with 0.
+same_takers() {
+    "$tool" rules boot >said || return 1
+    cat said
+    [ "$(grep -Ex '[0-9]+ (plain|generic)' said | paste -sd ,)" = "${takers[$1]}" ]
+}
+
 # A boot image that states another header size than its version has must be refused with 24.
 try_boot() {
     local what="mkbootimg, version $1, page $2, sizes $3" sizes size
@@ -242,6 +250,7 @@ try_boot() {
     size=$(stated_size "$1")
     if [ -z "$size" ] || [ "$size" = "${header_lengths[$1]}" ]; then
         expect agrees "$what" same_sections "$1"
+        expect agrees "releases, $what" same_takers "$1"
     else
         expect 24 "$what" says "refused 24 at 0" sections boot
     fi

@@ -33,7 +33,7 @@ static size_t other_len, runs_len = BLOCKS * TARPAULARK_RUN, joined_room = sizeo
 static bool other_first;
 static size_t image_len, told_len, flat_len = sizeof flat, partition_len = sizeof partition, room = ROOM;
 static size_t piece_at, piece_len, chunk_at;
-static uint32_t block = BLOCK, slot, number;
+static uint32_t block = BLOCK, slot, release, kernel, number;
 static uint64_t answer[TARPAULARK_LOCATE_ANSWER], met;
 
 static void got(uint32_t returned)
@@ -122,6 +122,11 @@ static void locate(void)
     got(tarpaulark_locate(image, image_len, answer));
 }
 
+static void locate_for(void)
+{
+    got(tarpaulark_locate_for(image, image_len, release, kernel, answer));
+}
+
 static void slots_valid(void)
 {
     got(tarpaulark_slots_valid(record));
@@ -183,6 +188,7 @@ static struct function {
     {"pass_store_piece", store_piece, true, 0},
     {"pass_store_finish", store_finish, true, 0},
     {"locate", locate, false, 0},
+    {"locate_for", locate_for, false, 0},
     {"slots_valid", slots_valid, false, 0},
     {"slots_startable", slots_startable, false, 0},
     {"slots_fresh", slots_fresh, false, 0},
@@ -466,6 +472,25 @@ static void make_boot(uint32_t version)
     image_len = 5 * 2048 + 1;
 }
 
+/* The boot image without a release, and for every pair of release and kernel, and some that there are not. */
+static void run_boot(void)
+{
+    measure(locate);
+    for (release = TARPAULARK_FIRST_RELEASE - 1; release <= TARPAULARK_LAST_RELEASE + 1; release++)
+        for (kernel = TARPAULARK_PLAIN_KERNEL; kernel <= TARPAULARK_GENERIC_KERNEL + 1; kernel++)
+            measure(locate_for);
+}
+
+/* The pair that takes a version with any os version. */
+static void expect_taken(uint32_t version)
+{
+    release = TARPAULARK_FIRST_RELEASE + version;
+    kernel = TARPAULARK_PLAIN_KERNEL;
+    measure(locate_for);
+    expect(number == 0, "the boot image is refused for its release");
+    expect(answer[TARPAULARK_RETIRED_AT] == (version < 3), "a retired section is told of wrongly for a release");
+}
+
 static void try_boot(void)
 {
     for (uint32_t version = 0; version <= 4; version++) {
@@ -473,13 +498,14 @@ static void try_boot(void)
         measure(locate);
         expect(number == 0, "the boot image is refused");
         expect(answer[TARPAULARK_RETIRED_AT] == (version < 3), "a retired section is told of wrongly");
+        expect_taken(version);
         for (size_t i = 0; i < 1660; i += i == 48 ? 1580 - 48 : 1) {
             image[i] ^= 0xFF;
-            measure(locate);
+            run_boot();
             image[i] ^= 0xFF;
         }
         for (; image_len > 0; image_len -= image_len < 200 ? 1 : 200)
-            measure(locate);
+            run_boot();
     }
 }
 
@@ -518,7 +544,7 @@ static void try_slots(void)
 /* Whether the calls got every refusal that the header names. */
 static bool all_met(void)
 {
-    static const uint8_t spans[][2] = {{0, 18}, {21, 27}, {31, 33}};
+    static const uint8_t spans[][2] = {{0, 18}, {21, 27}, {31, 33}, {41, 43}};
     bool all = true;
 
     for (size_t i = 0; i < sizeof spans / sizeof spans[0]; i++)

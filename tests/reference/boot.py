@@ -24,6 +24,7 @@ class Row(NamedTuple):
     header_length: int
     header_size_at: Optional[int]
     page_size_at: Optional[int]
+    os_version_at: int
     recovery_offset_at: Optional[int]
     size_at: Tuple[Tuple[str, int], ...]
 
@@ -36,11 +37,11 @@ SIGNATURE_SIZE = ("signature", 1580)
 
 # "One table of field positions serves all five versions."
 TABLE = (
-    Row(1632, None, 36, None, OLD_SIZES),
-    Row(1648, 1644, 36, 1636, OLD_SIZES + (RECOVERY_SIZE,)),
-    Row(1660, 1644, 36, 1636, OLD_SIZES + (RECOVERY_SIZE, DTB_SIZE)),
-    Row(1580, 20, None, None, NEW_SIZES),
-    Row(1584, 20, None, None, NEW_SIZES + (SIGNATURE_SIZE,)),
+    Row(1632, None, 36, 44, None, OLD_SIZES),
+    Row(1648, 1644, 36, 44, 1636, OLD_SIZES + (RECOVERY_SIZE,)),
+    Row(1660, 1644, 36, 44, 1636, OLD_SIZES + (RECOVERY_SIZE, DTB_SIZE)),
+    Row(1580, 20, None, 16, None, NEW_SIZES),
+    Row(1584, 20, None, 16, None, NEW_SIZES + (SIGNATURE_SIZE,)),
 )
 NEW_PAGE_SIZE = 4096
 
@@ -148,6 +149,11 @@ def read_recovery_offset(image: bytes, row: Row) -> int:
     if row.recovery_offset_at is None:
         return 0
     return fields.read(image, row.recovery_offset_at, 8)
+
+
+def read_os_version(image: bytes, row: Row) -> int:
+    """All four bytes of the os version, which no test of 01's looks at."""
+    return fields.read(image, row.os_version_at, 4)
 
 
 def offered(sections: List[Section]) -> List[Section]:

@@ -131,7 +131,8 @@ def stating(image: bytes, checksum: int) -> bytes:
 
 
 class BootPlan(NamedTuple):
-    """The fields of a boot image header; None for the value that is right."""
+    """The fields of a boot image header.  None is the right header size, and an os version that
+    holds the filler."""
 
     version: int
     kernel: int = 0
@@ -143,6 +144,7 @@ class BootPlan(NamedTuple):
     signature: int = 0
     page: int = 2048
     header_size: Optional[int] = None
+    os_version: Optional[int] = None
     magic: bytes = b"ANDROID!"
     filler: int = 0
 
@@ -160,10 +162,20 @@ def boot_header(plan: BootPlan) -> bytes:
     return old_boot_header(plan, header_size)
 
 
+def filler_number(plan: BootPlan) -> int:
+    """A number of 32 bits that holds the filler."""
+    return int.from_bytes(bytes([plan.filler]) * 4, "little")
+
+
+def os_version(plan: BootPlan) -> int:
+    """The plan's os version, or the filler."""
+    return filler_number(plan) if plan.os_version is None else plan.os_version
+
+
 def old_boot_header(plan: BootPlan, header_size: int) -> bytes:
     """Versions 0 to 2; addresses and texts hold the filler."""
     text = bytes([plan.filler])
-    address = int.from_bytes(text * 4, "little")
+    address = filler_number(plan)
     head = struct.pack(
         "<8s10I",
         plan.magic,
@@ -176,7 +188,7 @@ def old_boot_header(plan: BootPlan, header_size: int) -> bytes:
         address,
         plan.page,
         plan.version,
-        address,
+        os_version(plan),
     )
     head += text * (16 + 512 + 32 + 1024)
     if plan.version >= 1:
@@ -187,10 +199,10 @@ def old_boot_header(plan: BootPlan, header_size: int) -> bytes:
 
 
 def new_boot_header(plan: BootPlan, header_size: int) -> bytes:
-    """Versions 3 and 4; os version, reserved fields and texts hold the filler."""
+    """Versions 3 and 4; reserved fields and texts hold the filler."""
     text = bytes([plan.filler])
-    head = struct.pack("<8sII", plan.magic, plan.kernel, plan.ramdisk)
-    head += text * 4 + struct.pack("<I", header_size) + text * 16
+    head = struct.pack("<8s3I", plan.magic, plan.kernel, plan.ramdisk, os_version(plan))
+    head += struct.pack("<I", header_size) + text * 16
     head += struct.pack("<I", plan.version) + text * 1536
     if plan.version >= 4:
         head += struct.pack("<I", plan.signature)

@@ -2,7 +2,7 @@
 
 import itertools
 import random
-from typing import Dict, List, Tuple
+from typing import Any, Dict, List, Tuple, Union
 
 import boot
 import build
@@ -37,12 +37,16 @@ def section_values(located: boot.Located) -> Tuple[int, ...]:
     return tuple(triples)
 
 
-def values(image: bytes) -> Tuple[int, ...]:
+def answer_values(answer: Union[boot.Located, boot.Refusal]) -> Tuple[int, ...]:
     """Number and version, then the sections, then whether a retired one is present."""
-    answer = boot.locate(image)
     if isinstance(answer, boot.Refusal):
         return (answer.number, 0) + (0,) * (3 * len(boot.OFFERED) + 1)
     return (0, answer.version) + section_values(answer) + (int(answer.retired),)
+
+
+def values(image: bytes) -> Tuple[int, ...]:
+    """The values of an image's answer."""
+    return answer_values(boot.locate(image))
 
 
 def example_images() -> List[bytes]:
@@ -54,10 +58,13 @@ def example_images() -> List[bytes]:
     ]
 
 
-def base_image(version: int) -> bytes:
-    """An image with room for all sections of its version, none of them empty."""
-    sizes = {name: BASE_SIZES[name] for name in SECTIONS[version]}
-    return build.boot_image(version, BASE_LENGTH, recovery_offset=BASE_RECOVERY_OFFSET, **sizes)
+def base_image(version: int, **given: Any) -> bytes:
+    """An image with room for all sections of its version, none of them empty; or with fields
+    given other values."""
+    plan: Dict[str, Any] = {name: BASE_SIZES[name] for name in SECTIONS[version]}
+    plan["recovery_offset"] = BASE_RECOVERY_OFFSET
+    plan.update(given)
+    return build.boot_image(version, BASE_LENGTH, **plan)
 
 
 def cut_lengths(version: int) -> List[int]:
@@ -127,10 +134,8 @@ def recovery_images() -> List[bytes]:
     for version in (1, 2):
         for byte in range(8):
             offset = BASE_RECOVERY_OFFSET ^ (1 << (8 * byte))
-            sizes = {name: BASE_SIZES[name] for name in SECTIONS[version]}
-            images.append(build.boot_image(version, BASE_LENGTH, recovery_offset=offset, **sizes))
-            sizes["recovery"] = 0
-            images.append(build.boot_image(version, BASE_LENGTH, recovery_offset=offset, **sizes))
+            images.append(base_image(version, recovery_offset=offset))
+            images.append(base_image(version, recovery_offset=offset, recovery=0))
     return images
 
 
@@ -203,21 +208,26 @@ def order_images() -> List[bytes]:
     return images
 
 
-def random_image(rng: random.Random) -> bytes:
-    """Sections of any size, often empty; the recovery offset mostly right."""
+def random_image(rng: random.Random, **given: Any) -> bytes:
+    """Sections of any size, often empty; the recovery offset mostly right; the rest as given."""
     version = below(rng, 5)
     page = pick(rng, (2048, 4096, 8192, 16384))
     sizes = {name: pick(rng, (0, 1, below(rng, 9000))) for name in SECTIONS[version]}
     before = [sizes.get(name, 0) for name in ("kernel", "ramdisk", "second")]
     offset = recovery_position(page, *before) + pick(rng, (0, 0, 0, page))
     length = 1600 + below(rng, 60000)
-    return build.boot_image(version, length, page=page, recovery_offset=offset, **sizes)
+    return build.boot_image(version, length, page=page, recovery_offset=offset, **sizes, **given)
+
+
+def all_images(rng: random.Random) -> List[bytes]:
+    """The images of the group."""
+    images = example_images() + cut_images() + damaged_images() + page_images()
+    images += single_section_images() + header_images() + recovery_images()
+    images += retired_images() + reserved_images() + wide_images() + order_images()
+    return images + [random_image(rng) for _ in range(150)]
 
 
 def group(rng: random.Random) -> Group:
     """All cases of the group."""
-    images = example_images() + cut_images() + damaged_images() + page_images()
-    images += single_section_images() + header_images() + recovery_images()
-    images += retired_images() + reserved_images() + wide_images() + order_images()
-    images += [random_image(rng) for _ in range(150)]
+    images = all_images(rng)
     return Group(b"".join(map(patched_image, images)), [values(image) for image in images])

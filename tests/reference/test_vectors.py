@@ -28,6 +28,8 @@ from passes import Answer, GoingOn
 from slots import Record, Slot
 from test_compare import cases_in, has_few_blocks, slow_answer
 from test_join import slow_join
+from test_launch import cases_in as launch_cases
+from test_launch import slow_values as slow_launch_values
 from test_passes import History
 
 LARGEST_IMAGE = 65536
@@ -37,7 +39,7 @@ LARGEST_WRITTEN = 69632
 LARGEST_COMPARED_IMAGE = 4096
 LARGEST_ROOM = 8192
 MOST_NUMBERS = 96
-LARGEST_OUTPUT = 450_000
+LARGEST_OUTPUT = 490_000
 RECORD = 22
 RECORD_SLOT = 5
 RECORD_CURRENT = 20
@@ -162,6 +164,12 @@ def boot_images(data: bytes) -> Iterator[bytes]:
 def boot_lines(data: bytes) -> Lines:
     for image in boot_images(data):
         yield cases_boot.values(image)
+
+
+def launch_lines(data: bytes) -> Lines:
+    for case in launch_cases(data):
+        assert len(case.image) <= LARGEST_IMAGE
+        yield slow_launch_values(case)
 
 
 def sparse_cases(data: bytes) -> Iterator[Tuple[bytes, int]]:
@@ -327,6 +335,7 @@ READERS: Dict[str, Callable[[bytes], Lines]] = {
     "slots": slot_lines,
     "slotsum": slot_sum_lines,
     "boot": boot_lines,
+    "launch": launch_lines,
     "sparse": sparse_lines,
     "store": lines_of_steps(store_values),
     "passes": lines_of_steps(pass_values),

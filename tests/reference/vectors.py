@@ -75,6 +75,10 @@ boot     case:  image
                 the image has a second section that is not empty, which takes
                 its room; 0 if not and when refused.
 
+launch   case:  release u32, kernel u32 (0 plain, 1 generic; any other number is none), image
+         values: as in `boot`, for the boards of that launch release with that kernel; 41, 42
+                and 43 are among the refusals.
+
 sparse   case:  partition length u64, image
          values: NUMBER of the refusal or 0; its PLACE, or 0; blocks WRITTEN,
                 DON'T CARE and UNKNOWN, all 0 when refused.
@@ -152,6 +156,7 @@ import cases_compare
 import cases_crc
 import cases_fields
 import cases_join
+import cases_launch
 import cases_passes
 import cases_slots
 import cases_sparse
@@ -168,6 +173,7 @@ GROUPS: Tuple[Tuple[str, Callable[[random.Random], Group]], ...] = (
     ("slots", cases_slots.group),
     ("slotsum", cases_slots.sum_group),
     ("boot", cases_boot.group),
+    ("launch", cases_launch.group),
     ("sparse", cases_sparse.group),
     ("store", cases_store.group),
     ("passes", cases_passes.group),

@@ -8,8 +8,8 @@ use lib.Dec.{eqb}
 use borrow.Author.Tests.{lt-ltb, le-ltb}
 use Rattle.boot_rules.specs.declared.Field.{Field}
 use Rattle.boot_rules.specs.declared.Row.{Row}
-use Rattle.boot_rules.specs.Sections.{rowIn, pageBy, pageIn, offsetIn}
-use Rattle.boot_rules.specs.Table.{has, number, wordAt, headerSize, pageSize, recoveryOffset}
+use Rattle.boot_rules.specs.Sections.{rowIn, pageBy, pageIn, osIn, offsetIn}
+use Rattle.boot_rules.specs.Table.{has, number, wordAt, headerSize, pageSize, osVersion, recoveryOffset}
 use Rattle.boot_rules.specs.Tests.{missized}
 use Rattle.boot_rules.proofs.Reading.{number-read, word-number, page-stated, page-fixed}
 use Rattle.boot_rules.proofs.Widths.{numbers}
@@ -30,6 +30,10 @@ module _ (s : List ℕ) (r : Row) (e : r ≡ rowIn s) where
 
   pub page-none : r .width .page ≤ 0 → 4096 ≡ pageIn s
   page-none h = page-fixed s r h ∙ ap (pageBy s) e
+
+  -- the os version
+  pub os-read : (n : ℕ) → n ≡ wordAt s (osVersion r) → n ≡ osIn s
+  os-read n q = q ∙ word-number s (osVersion r) (numbers r _ e .os) ∙ ap (λ (x : Row). number s (osVersion x)) e
 
   -- the recovery offset, stated or not
   pub offset-read : (n : ℕ) → n ≡ cond (has (recoveryOffset r)) (numberAt s (r .at .offset) 8) 0 → n ≡ offsetIn s

@@ -7,15 +7,22 @@ use boot_rules::Row;
 use boot_table::row_at;
 ghost use mathlib.Core.Path.{_≡_};
 ghost use mathlib.Core.Bool.{cond};
-ghost use Rattle.boot_rules.specs.Sections.{rowIn, pageIn, offsetIn};
+ghost use Rattle.boot_rules.specs.Sections.{versionOf, rowIn, pageIn, osIn, offsetIn};
 ghost use Rattle.boot_rules.specs.Table.{has, wordAt};
 ghost use Rattle.fields_rules.specs.Number.{numberAt};
+
+// The version: the number at byte 40.
+pub fn version_in(image: &[u8]) -> u32
+    ensures { λ r. ⌜ r ≡ versionOf (now (image .entry)) ⌝ }
+{
+    fields_read::read32(image, 40)
+}
 
 // The table's row for an image; one with no field for a version above 4.
 pub fn row_in(image: &[u8]) -> Row
     ensures { λ r. ⌜ r ≡ rowIn (now (image .entry)) ⌝ }
 {
-    row_at(fields_read::read32(image, 40))
+    row_at(version_in(image))
 }
 
 // The number in a field of four bytes; 0 where the version lacks it.
@@ -54,6 +61,18 @@ pub fn page_in(image: &[u8]) -> u32
     } else {
         4096
     }
+}
+
+// The os version: the whole field.
+pub fn os_in(image: &[u8]) -> u32
+    ensures { λ r. ⌜ r ≡ osIn (now (image .entry)) ⌝ }
+{
+    let row = row_in(image);
+    let field = Field {
+        at: row.at.os,
+        width: row.width.os,
+    };
+    word(image, field)
 }
 
 // The recovery offset: 0 where the version has no field for it.

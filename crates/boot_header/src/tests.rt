@@ -1,6 +1,7 @@
 // The tests of the header, in their order.
 use crate::page_in;
 use crate::row_in;
+use crate::version_in;
 use crate::word;
 use boot_rules::Field;
 ghost use mathlib.Core.Path.{_≡_};
@@ -41,7 +42,7 @@ pub fn header_refusal(image: &[u8]) -> u32
     if fields_read::read64(image, 0) != MAGIC {
         return 22;
     }
-    if 4 < fields_read::read32(image, 40) {
+    if 4 < version_in(image) {
         return 23;
     }
     let row = row_in(image);

@@ -8,10 +8,12 @@ use boot_bounds::any_overrun;
 use boot_bounds::misplaced;
 use boot_header::offset_in;
 use boot_header::tests::header_refusal;
+use boot_header::version_in;
 use boot_offer::offer;
 use boot_rules::Located;
 use sections::lay;
 ghost use mathlib.Core.Path.{_≡_};
+ghost use Rattle.rules.specs.Answer.{numberOf};
 ghost use Rattle.boot_rules.specs.Tests.{answer, answerOf};
 
 // Finds the sections of a boot image; any bytes are taken.
@@ -29,5 +31,15 @@ pub fn locate(image: &[u8]) -> Located
     if any_overrun(image.len() as u64, rooms) {
         return Located::Refused(26);
     }
-    Located::Found(offer(fields_read::read32(image, 40), rooms))
+    Located::Found(offer(version_in(image), rooms))
+}
+
+// The number of an answer's refusal, 0 where it is accepted.
+pub fn number_of(a: Located) -> u32
+    ensures { λ r. ⌜ r ≡ numberOf (answerOf a) ⌝ }
+{
+    match a {
+        Located::Found(_) => 0,
+        Located::Refused(n) => n,
+    }
 }

@@ -6,7 +6,7 @@ use Prim.Native.Nat.{ℕ, zero, suc}
 use lib.ListN.{getD}
 use Rattle.boot_rules.specs.declared.Field.{Field}
 use Rattle.boot_rules.specs.declared.Row.{Row}
-use Rattle.boot_rules.specs.Table.{isWord, isDouble, lacking, rowOf, headerSize, pageSize, recoveryOffset, sizeFields}
+use Rattle.boot_rules.specs.Table.{isWord, isDouble, lacking, rowOf, headerSize, pageSize, osVersion, recoveryOffset, sizeFields}
 use Rattle.boot_rules.proofs.Rule.{everywhere}
 use Rattle.rules.specs.Every.{every}
 use Rattle.rules.proofs.Tests.{both}
@@ -21,6 +21,7 @@ words (f ∷ fs) k t (suc i) = words fs (suc k) (both (isWord f) (every (λ _ g.
 pub record Numbers (r : Row) : Type 0 where
   pub headersize : isWord (headerSize r) ≡ true
   pub page : isWord (pageSize r) ≡ true
+  pub os : isWord (osVersion r) ≡ true
   pub offset : isDouble (recoveryOffset r) ≡ true
   pub sizes : (i : ℕ) → isWord (getD (sizeFields r) i lacking) ≡ true
 
@@ -29,6 +30,7 @@ numbers-at v =
     record {
       headersize = everywhere (λ r. isWord (headerSize r)) tt tt v;
       page = everywhere (λ r. isWord (pageSize r)) tt tt v;
+      os = everywhere (λ r. isWord (osVersion r)) tt tt v;
       offset = everywhere (λ r. isDouble (recoveryOffset r)) tt tt v;
       sizes = words (sizeFields (rowOf v)) 0 (everywhere (λ r. every (λ _ f. isWord f) 0 (sizeFields r)) tt tt v);
     }

@@ -11,7 +11,7 @@ use Rattle.boot_rules.specs.declared.Section.{Section}
 use Rattle.boot_rules.specs.declared.Field.{Field}
 use Rattle.boot_rules.specs.declared.Row.{Row}
 use Rattle.boot_rules.specs.Pages.{roundUp}
-use Rattle.boot_rules.specs.Table.{SectionKind, has, number, rowOf, pageSize, recoveryOffset, sectionKinds, sizeFields}
+use Rattle.boot_rules.specs.Table.{SectionKind, has, number, rowOf, pageSize, osVersion, recoveryOffset, sectionKinds, sizeFields}
 use Rattle.fields_rules.specs.Number.{numberAt}
 
 -- "the version stands at byte 40 in every header"
@@ -29,6 +29,10 @@ pageBy s r = cond (has (pageSize r)) (number s (pageSize r)) 4096
 -- the page of an image
 abbrev pub pageIn : List ℕ → ℕ
 pageIn s = pageBy s (rowIn s)
+
+-- the os version that an image states, the whole field
+abbrev pub osIn : List ℕ → ℕ
+osIn s = number s (osVersion (rowIn s))
 
 -- the recovery offset that an image states
 abbrev pub offsetIn : List ℕ → ℕ

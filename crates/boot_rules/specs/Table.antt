@@ -239,6 +239,10 @@ headerSize r = field (r .at .headersize) (r .width .headersize)
 abbrev pub pageSize : Row → Field
 pageSize r = field (r .at .page) (r .width .page)
 
+-- the os version field
+abbrev pub osVersion : Row → Field
+osVersion r = field (r .at .os) (r .width .os)
+
 -- the recovery offset field
 abbrev pub recoveryOffset : Row → Field
 recoveryOffset r = field (r .at .offset) (r .width .offset)

@@ -9,10 +9,6 @@ use Rattle.sparse_rules.specs.declared.Kind.the-variants.{Raw, Fill, DontCare, 
 use Rattle.sparse_rules.specs.declared.Chunk.{Chunk}
 use Rattle.sparse_rules.specs.declared.Counts.{Counts}
 
--- "Longer input prints `too long` alone"
-unfoldable pub tooLong : List ℕ
-tooLong = ascii "too long\n"
-
 -- "a refusal `refused N at P` alone"
 unfoldable pub refusedLine : ℕ → ℕ → List ℕ
 refusedLine n place = line (labelled (ascii "refused ") n ∷ labelled (ascii " at ") place ∷ [])

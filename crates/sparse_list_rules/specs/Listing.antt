@@ -6,6 +6,7 @@ use mathlib.Core.List.{List, [], _∷_, _++_}
 use Prim.Native.Nat.{ℕ, _+_, _≤_}
 use lib.Dec.{leb, ltb}
 use lib.ListN.{length, take, drop}
+use Rattle.text_rules.specs.Input.{longest, tooLong}
 use Rattle.sparse_rules.specs.declared.Chunk.{Chunk}
 use Rattle.sparse_rules.specs.declared.Counts.{Counts}
 use Rattle.sparse_rules.specs.Header.{headerOf}
@@ -15,11 +16,7 @@ use Rattle.sparse_rules.specs.Counts.{countsOf}
 use Rattle.sparse_rules.specs.Judge.{judged}
 use Rattle.sparse_list_rules.specs.declared.Listed.{Listed}
 use Rattle.sparse_list_rules.specs.declared.Listed.the-variants.{Whole, TooShort}
-use Rattle.sparse_list_rules.specs.Lines.{tooLong, refusedLine, headerLine, chunkLine, lastLine}
-
--- "an image of at most 65,536 bytes"
-abbrev pub longest : ℕ
-longest = 65536
+use Rattle.sparse_list_rules.specs.Lines.{refusedLine, headerLine, chunkLine, lastLine}
 
 -- "a partition of 1,048,576 bytes"
 abbrev pub partition : ℕ

@@ -2,6 +2,7 @@
 -- Assumes nothing.
 use Rattle.slot_rules.proofs.Promises as slots
 use Rattle.boot_rules.proofs.Answers as boot
+use Rattle.boot_launch_rules.proofs.Theorems as launch
 use Rattle.sparse_rules.proofs.Theorems as images
 use Rattle.sparse_store_rules.proofs.Storing as storing
 use Rattle.sparse_stream_rules.proofs.Theorems as passes
@@ -20,5 +21,6 @@ promises =
       comparing = diff.refusal-numbers;
       joining = joiner.refusal-numbers;
       boot = boot.refusal-numbers;
+      launch = launch.refusal-numbers;
       slots = slots.refusal-numbers;
     }

@@ -2,6 +2,7 @@
 -- Assumes nothing.
 use Rattle.slot_rules.specs.Promises as slots
 use Rattle.boot_rules.specs.Tests as boot
+use Rattle.boot_launch_rules.specs.Theorems as launch
 use Rattle.sparse_rules.specs.Theorems as images
 use Rattle.sparse_store_rules.specs.Storing as storing
 use Rattle.sparse_stream_rules.specs.Theorems as passes
@@ -18,4 +19,5 @@ pub record Promises : Type 0 where
   pub comparing : diff.RefusalNumbers
   pub joining : joiner.RefusalNumbers
   pub boot : boot.RefusalNumbers
+  pub launch : launch.RefusalNumbers
   pub slots : slots.RefusalNumbers

@@ -1,6 +1,7 @@
 // What other languages call. Numbers and bytes go in; the answer is 0 or the number of the refusal,
 // with the rest of it in a lent array of fixed length. include/tarpaulark.h says the same for C.
 
+use boot_image::number_of;
 use slot_bytes::RECORD;
 use slot_on_bytes::Reply;
 use slot_rules::Op;
@@ -11,7 +12,6 @@ use tarpaulark_numbers::cut_answer;
 use tarpaulark_numbers::cut_number;
 use tarpaulark_numbers::header_answer;
 use tarpaulark_numbers::located_answer;
-use tarpaulark_numbers::located_number;
 use tarpaulark_numbers::paired_answer;
 use tarpaulark_numbers::paired_number;
 use tarpaulark_numbers::verdict_answer;
@@ -24,6 +24,7 @@ ghost use lib.ListN.{length};
 ghost use Rattle.rules.specs.First.{first};
 ghost use Rattle.rules.specs.Answer.{numberOf};
 ghost use Rattle.boot_rules.specs.Tests as boot;
+ghost use Rattle.boot_launch_rules.specs.Tests as launch;
 ghost use Rattle.sparse_rules.specs.Header.{headerOf, headerTests};
 ghost use Rattle.sparse_rules.specs.Answers.{answer};
 ghost use Rattle.sparse_store_rules.specs.Answers.{cutAnswer};
@@ -230,7 +231,24 @@ pub extern "C" fn tarpaulark_locate(image: &[u8], out: &mut [u64; 17]) -> u32
 {
     let found = boot_image::locate(image);
     *out = located_answer(found);
-    located_number(found)
+    number_of(found)
+}
+
+// Finds the sections of a boot image for a board launched with a release, by its kernel, 0 plain and 1 generic. Answers as
+// the finder of sections does.
+#[no_mangle]
+pub extern "C" fn tarpaulark_locate_for(
+    image: &[u8],
+    release: u32,
+    kernel: u32,
+    out: &mut [u64; 17],
+) -> u32
+    ensures { λ r. ⌜ (r ≡ numberOf (launch.answer release kernel (now (image .entry))))
+        × (now (out .exit) ≡ layoutNumbers (launch.answer release kernel (now (image .entry)))) ⌝ }
+{
+    let found = boot_launch::locate_for(release, kernel, image);
+    *out = located_answer(found);
+    number_of(found)
 }
 
 // Hands a reply over: its bytes and its array to what is lent, its number to the caller.

@@ -164,16 +164,6 @@ pub fn paired_answer(p: Paired) -> [u64; 3]
     }
 }
 
-// The number that the finder of sections returns.
-pub fn located_number(a: Located) -> u32
-    ensures { λ r. ⌜ r ≡ numberOf (boot.answerOf a) ⌝ }
-{
-    match a {
-        Located::Found(_) => 0,
-        Located::Refused(n) => n,
-    }
-}
-
 // A section: whether it is present, its position and its size.
 fn section_answer(s: Section) -> [u64; 3]
     ensures { λ r. ⌜ r ≡ sectionOf s ⌝ }

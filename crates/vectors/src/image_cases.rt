@@ -1,4 +1,4 @@
-// Cases of one image: boot images located, sparse images judged, and flat bytes written as sparse images.
+// Cases of one image: boot images located, also by launch release, sparse images judged, and flat bytes written as sparse images.
 use crate::support::build;
 use crate::support::least;
 use crate::support::part;
@@ -8,17 +8,38 @@ use crate::support::room;
 use crate::support::value;
 use crate::support::verdict;
 
+// Prints the number of a boot image's refusal, and its layout.
+fn layout(number: u32, out: &[u64; 17]) {
+    value(number as u64);
+    for i in 0usize..17 {
+        value(out[i]);
+    }
+}
+
 // Prints the values of the boot image at the start of rest, and answers how many bytes it takes.
 pub(crate) fn boot(rest: &[u8]) -> usize {
     let mut buf = io::large_buffer();
     let taken = build(rest, &mut buf);
     let image = part(&buf, 0, fields_read::read32(rest, 0) as usize);
     let mut out = [0u64; 17];
-    value(tarpaulark::tarpaulark_locate(image, &mut out) as u64);
-    for i in 0usize..17 {
-        value(out[i]);
-    }
+    let number = tarpaulark::tarpaulark_locate(image, &mut out);
+    layout(number, &out);
     taken
+}
+
+// Prints the values of the boot image at the start of rest for the release and the kernel before it, and answers how many
+// bytes they take.
+pub(crate) fn launch(rest: &[u8]) -> usize {
+    let form = part(rest, 8, rest.len());
+    let mut buf = io::large_buffer();
+    let taken = build(form, &mut buf);
+    let image = part(&buf, 0, fields_read::read32(form, 0) as usize);
+    let release = fields_read::read32(rest, 0);
+    let kernel = fields_read::read32(rest, 4);
+    let mut out = [0u64; 17];
+    let number = tarpaulark::tarpaulark_locate_for(image, release, kernel, &mut out);
+    layout(number, &out);
+    past(rest, 8, taken)
 }
 
 // Prints the values of the sparse image at the start of rest, and answers how many bytes it takes.

@@ -29,17 +29,19 @@ const SLOT_BLOCKS: usize = 4;
 
 const BOOT: usize = 5;
 
-const SPARSE: usize = 6;
+const LAUNCH: usize = 6;
 
-const STORE: usize = 7;
+const SPARSE: usize = 7;
 
-const PASSES: usize = 8;
+const STORE: usize = 8;
 
-const WRITE: usize = 9;
+const PASSES: usize = 9;
 
-const COMPARE: usize = 10;
+const WRITE: usize = 10;
 
-const JOIN: usize = 11;
+const COMPARE: usize = 11;
+
+const JOIN: usize = 12;
 
 // The lines of a group's cases, one after the other: the group's name, the case's number, its values.
 fn cases(group: usize, name: &[u8], file: &[u8]) {
@@ -55,6 +57,7 @@ fn cases(group: usize, name: &[u8], file: &[u8]) {
             SLOTS => slot_cases::case(rest),
             SLOT_BLOCKS => slot_cases::block(rest),
             BOOT => image_cases::boot(rest),
+            LAUNCH => image_cases::launch(rest),
             SPARSE => image_cases::sparse(rest),
             STORE | PASSES => store_cases::case(rest),
             WRITE => image_cases::write(rest),

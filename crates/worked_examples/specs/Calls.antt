@@ -9,6 +9,8 @@ use Rattle.slot_rules.specs.Operations.{startOf, startableOf}
 use Rattle.rules.specs.Answer.{Answer}
 use Rattle.boot_rules.specs.declared.Layout.{Layout}
 use Rattle.boot_rules.specs.Tests as boot
+use Rattle.boot_launch_rules.specs.Tests as launch
+use Rattle.boot_launch_rules.specs.Text.{text}
 use Rattle.sparse_rules.specs.declared.Counts.{Counts}
 use Rattle.sparse_rules.specs.Answers as judge
 use Rattle.sparse_store_rules.specs.Store as store
@@ -18,11 +20,13 @@ use Rattle.sparse_diff_rules.specs.Diff as diff
 use Rattle.sparse_join_rules.specs.Join as join
 use Rattle.sparse_list_rules.specs.Listing.{listing}
 
--- a call: an image stored on what a partition holds, flat bytes written at a block size into what an output holds, a boot image located, a slot record started, or its count told, an image listed, two images compared into what a space holds, or joined into what an output holds
+-- a call: an image stored on what a partition holds, flat bytes written at a block size into what an output holds, a boot image located, also for a release and a kernel, or those that take it printed, a slot record started, or its count told, an image listed, two images compared into what a space holds, or joined into what an output holds
 pub data Call : Type 0 where
   stores : List ℕ → List ℕ → Call
   writes : List ℕ → ℕ → List ℕ → Call
   locates : List ℕ → Call
+  locatesFor : ℕ → ℕ → List ℕ → Call
+  prints : List ℕ → Call
   starts : Record → Call
   tells : Record → Call
   lists : List ℕ → Call
@@ -37,6 +41,7 @@ pub data Result : Type 0 where
   started : Change → Result
   told : Answer ℕ → Result
   listed : List ℕ → Result
+  printed : List ℕ → Result
   compared : Answer ℕ → ℕ → List ℕ → Result
   joined : Answer ℕ → ℕ → List ℕ → Result
 
@@ -45,6 +50,8 @@ unfoldable pub perform : Call → Result
 perform (stores s p) = stored (judge.answer s (length s) (length p)) (store.store s p)
 perform (writes d b out) = written (write.answer d b (length out)) (write.output d b out)
 perform (locates s) = located (boot.answer s)
+perform (locatesFor release kernel s) = located (launch.answer release kernel s)
+perform (prints s) = printed (text s)
 perform (starts r) = started (startOf r)
 perform (tells r) = told (startableOf r)
 perform (lists s) = listed (listing s)

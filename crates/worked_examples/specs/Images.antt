@@ -95,6 +95,12 @@ boot3 n =
     (0x41 ∷ 0x4E ∷ 0x44 ∷ 0x52 ∷ 0x4F ∷ 0x49 ∷ 0x44 ∷ 0x21 ∷ [])
     ++ (bytes 4 4097 ++ (bytes 4 1 ++ (replicate 4 0 ++ (bytes 4 1580 ++ (replicate 16 0 ++ (bytes 4 3 ++ replicate (n - 44) 0))))))
 
+-- request 11: version 4 with no bytes in any section, with this os version
+abbrev pub boot4 : ℕ → List ℕ
+boot4 os =
+    (0x41 ∷ 0x4E ∷ 0x44 ∷ 0x52 ∷ 0x4F ∷ 0x49 ∷ 0x44 ∷ 0x21 ∷ [])
+    ++ (replicate 8 0 ++ (bytes 4 os ++ (bytes 4 1584 ++ (replicate 16 0 ++ (bytes 4 4 ++ replicate 1540 0)))))
+
 -- P11: "version 2, page 2,048, kernel 2,048, ramdisk 1, dtb 1, others 0", of so many bytes; second size and dtb size are given, for the examples of request 10
 abbrev pub boot2 : ℕ → ℕ → ℕ → List ℕ
 boot2 second dtb n =

@@ -8,8 +8,8 @@ use lib.ListN.{replicate}
 use Rattle.rules.specs.Answer.{accepted, refused}
 use Rattle.slot_rules.specs.Answers as slots
 use Rattle.text_rules.specs.Words.{ascii}
-use Rattle.worked_examples.specs.Calls.{Row, perform, stores, writes, locates, starts, tells, lists, compares, joins, stored, written, located, started, told, listed, compared, joined}
-use Rattle.worked_examples.specs.Images.{emptyImage, twoChunks, p2, p7, counts, upFrom, flat, flatImage, firstOfTwo, secondOfTwo, firstUpdate, secondUpdate, bothUpdates, boot3, boot2, section, none, layout, slot, corruptedSlot, two}
+use Rattle.worked_examples.specs.Calls.{Row, perform, stores, writes, locates, locatesFor, prints, starts, tells, lists, compares, joins, stored, written, located, started, told, listed, printed, compared, joined}
+use Rattle.worked_examples.specs.Images.{emptyImage, twoChunks, p2, p7, counts, upFrom, flat, flatImage, firstOfTwo, secondOfTwo, firstUpdate, secondUpdate, bothUpdates, boot3, boot4, boot2, section, none, layout, slot, corruptedSlot, two}
 
 -- P1: "writing 0 bytes at block size 4,096"
 abbrev pub row1 : Row
@@ -191,10 +191,42 @@ rowJoined = record { call = joins firstUpdate secondUpdate (replicate 78 7); res
 abbrev pub rowJoinedShort : Row
 rowJoinedShort = record { call = joins firstUpdate secondUpdate (replicate 75 7); result = joined (refused 18 0) 0 (replicate 75 7) }
 
--- P1 to P14, two of request 10 among them, two of request 4, three of request 6, the lister's texts, four of request 5, and two of request 7
+-- request 11: P10 for release 12, "versions 3 and 4 without the generic kernel", and "sections stay as without the rules"
+abbrev pub rowTaken : Row
+rowTaken = record { call = locatesFor 12 0 (boot3 12289); result = row10 .result }
+
+-- "and only 4 with it": 42
+abbrev pub rowNotTaken : Row
+rowNotTaken = record { call = locatesFor 12 1 (boot3 12289); result = located (refused 42 0) }
+
+-- before it the image's own refusal: P10 of 12,288 bytes
+abbrev pub rowOwn : Row
+rowOwn = record { call = locatesFor 12 1 (boot3 12288); result = located (refused 26 0) }
+
+-- and before that 41: "The generic kernel before 11 is a bad request"
+abbrev pub rowBadRequest : Row
+rowBadRequest = record { call = locatesFor 10 1 (boot3 12288); result = located (refused 41 0) }
+
+-- "Release 13 with the generic kernel also wants an os version of 0", the whole field
+abbrev pub rowOs : Row
+rowOs = record { call = locatesFor 13 1 (boot4 0x10000); result = located (refused 43 0) }
+
+-- "a line for every pair that takes it": version 4 with an os version of 0
+abbrev pub rowPrinted : Row
+rowPrinted = record { call = prints (boot4 0); result = printed (ascii "12 plain\n12 generic\n13 plain\n13 generic\n") }
+
+-- and with another
+abbrev pub rowPrintedOs : Row
+rowPrintedOs = record { call = prints (boot4 0x10000); result = printed (ascii "12 plain\n12 generic\n13 plain\n") }
+
+-- "a boot refusal prints `refused N` alone"
+abbrev pub rowPrintedRefused : Row
+rowPrintedRefused = record { call = prints (boot3 12288); result = printed (ascii "refused 26\n") }
+
+-- P1 to P14, two of request 10 among them, two of request 4, three of request 6, the lister's texts, four of request 5, two of request 7, and eight of request 11
 abbrev pub table : List Row
 table =
-    row1 ∷ row2 ∷ row3 ∷ row4 ∷ row5 ∷ row6 ∷ row7 ∷ row8 ∷ row8One ∷ row9 ∷ row9Short ∷ row10 ∷ row10Short ∷ row11 ∷ rowRetired ∷ rowRetiredPast ∷ row12 ∷ row13 ∷ row14 ∷ rowCorrupted ∷ rowNoCandidate ∷ rowCounted ∷ rowMiscounted ∷ rowMiscountedStart ∷ rowListed ∷ rowListedUnknown ∷ rowCompared ∷ rowComparedShort ∷ rowComparedGeometry ∷ rowComparedSecond ∷ rowJoined ∷ rowJoinedShort ∷ []
+    row1 ∷ row2 ∷ row3 ∷ row4 ∷ row5 ∷ row6 ∷ row7 ∷ row8 ∷ row8One ∷ row9 ∷ row9Short ∷ row10 ∷ row10Short ∷ row11 ∷ rowRetired ∷ rowRetiredPast ∷ row12 ∷ row13 ∷ row14 ∷ rowCorrupted ∷ rowNoCandidate ∷ rowCounted ∷ rowMiscounted ∷ rowMiscountedStart ∷ rowListed ∷ rowListedUnknown ∷ rowCompared ∷ rowComparedShort ∷ rowComparedGeometry ∷ rowComparedSecond ∷ rowJoined ∷ rowJoinedShort ∷ rowTaken ∷ rowNotTaken ∷ rowOwn ∷ rowBadRequest ∷ rowOs ∷ rowPrinted ∷ rowPrintedOs ∷ rowPrintedRefused ∷ []
 
 -- every call of the table gives back what its row says
 abbrev pub Worked : Type 0

@@ -5,14 +5,14 @@ use borrow.Author.Needs.{needs}
 use Rattle.boot_header.proofs.row_in.Statement.{statement}
 use Rattle.boot_header.proofs.row_in.Tie as tie
 
-read32-requires : tie.Need-read32-requires
-read32-requires c κs = search needs
+version-in-requires : tie.Need-version-in-requires
+version-in-requires c κs = search needs
 
 row-at-requires : tie.Need-row-at-requires
 row-at-requires c κs = search needs
 
 returns : tie.Need-returns
-returns c = c .row-at .ensures ∙ ap rowOf (c .before .read32 .ensures)
+returns c = c .row-at .ensures ∙ ap rowOf (c .before .version-in .ensures)
 
 pub row-in-spec : {M : Type 1} → statement M
-row-in-spec = tie.close (tie.spec read32-requires row-at-requires returns)
+row-in-spec = tie.close (tie.spec version-in-requires row-at-requires returns)

@@ -38,8 +38,8 @@ returns-3 c =
     let s = p .before .before .before .before .args .image .now in
     out-26 s _ (head-passed s _ (p .before .before .header-refusal .ensures) (p .before .if1 .left)) (p .lay .ensures) _ _ (c .before .before .before .before .offset-in .ensures) (c .before .before .before .misplaced .ensures) (c .before .before .if2 .left) _ (c .before .any-overrun .ensures) (c .if3 .taken)
 
-read32-requires : tie.Need-read32-requires
-read32-requires c κs = search needs
+version-in-requires : tie.Need-version-in-requires
+version-in-requires c κs = search needs
 
 offer-requires : tie.Need-offer-requires
 offer-requires c κs = search needs
@@ -49,9 +49,9 @@ returns-4 c =
     let q = c .before .before in
     let p = q .before .before .before .before .before in
     let s = p .before .before .before .before .args .image .now in
-    out-accepted s _ (head-passed s _ (p .before .before .header-refusal .ensures) (p .before .if1 .left)) (p .lay .ensures) _ _ (q .before .before .before .before .offset-in .ensures) (q .before .before .before .misplaced .ensures) (q .before .before .if2 .left) _ (q .before .any-overrun .ensures) (q .if3 .left) _ _ (c .before .read32 .ensures) (c .offer .ensures)
+    out-accepted s _ (head-passed s _ (p .before .before .header-refusal .ensures) (p .before .if1 .left)) (p .lay .ensures) _ _ (q .before .before .before .before .offset-in .ensures) (q .before .before .before .misplaced .ensures) (q .before .before .if2 .left) _ (q .before .any-overrun .ensures) (q .if3 .left) _ _ (c .before .version-in .ensures) (c .offer .ensures)
 
 pub locate-spec : {M : Type 1} → statement M
 locate-spec =
     tie.close
-    (tie.spec header-refusal-requires returns lay-requires offset-in-requires misplaced-requires returns-2 any-overrun-requires returns-3 read32-requires offer-requires returns-4)
+    (tie.spec header-refusal-requires returns lay-requires offset-in-requires misplaced-requires returns-2 any-overrun-requires returns-3 version-in-requires offer-requires returns-4)

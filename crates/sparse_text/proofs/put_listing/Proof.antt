@@ -2,8 +2,8 @@
 -- Assumes nothing.
 use mathlib.Core.Path.{sym, ap, _∙_}
 use borrow.Author.Needs.{needs}
+use Rattle.text_rules.specs.Input.{tooLong}
 use Rattle.sparse_rules.specs.Answers.{answerOf}
-use Rattle.sparse_list_rules.specs.Lines.{tooLong}
 use Rattle.sparse_list_rules.proofs.Listings.{listing-long, listing-refused, listing-accepted}
 use Rattle.sparse_text.proofs.put_listing.Statement.{statement}
 use Rattle.sparse_text.proofs.put_listing.Tie as tie

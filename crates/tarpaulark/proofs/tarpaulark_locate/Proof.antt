@@ -12,12 +12,12 @@ locate-requires c κs = search needs
 located-answer-requires : tie.Need-located-answer-requires
 located-answer-requires c κs = search needs
 
-located-number-requires : tie.Need-located-number-requires
-located-number-requires c κs = search needs
+number-of-requires : tie.Need-number-of-requires
+number-of-requires c κs = search needs
 
 returns : tie.Need-returns
-returns c = (c .located-number .ensures ∙ ap numberOf (c .before .before .locate .ensures), c .before .located-answer .ensures ∙ ap layoutNumbers (c .before .before .locate .ensures))
+returns c = (c .number-of .ensures ∙ ap numberOf (c .before .before .locate .ensures), c .before .located-answer .ensures ∙ ap layoutNumbers (c .before .before .locate .ensures))
 
 pub tarpaulark-locate-spec : {M : Type 1} → statement M
 tarpaulark-locate-spec =
-    tie.close (tie.spec locate-requires located-answer-requires located-number-requires returns)
+    tie.close (tie.spec locate-requires located-answer-requires number-of-requires returns)

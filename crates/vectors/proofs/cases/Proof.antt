@@ -39,6 +39,9 @@ block-requires c κs = search needs
 boot-requires : tie.Need-boot-requires Inv-loop μ-loop
 boot-requires c κs = search needs
 
+launch-requires : tie.Need-launch-requires Inv-loop μ-loop
+launch-requires c κs = search needs
+
 sparse-requires : tie.Need-sparse-requires Inv-loop μ-loop
 sparse-requires c κs = search needs
 
@@ -90,6 +93,7 @@ cases-spec =
     case-requires-3
     block-requires
     boot-requires
+    launch-requires
     sparse-requires
     write-requires
     block-requires-2

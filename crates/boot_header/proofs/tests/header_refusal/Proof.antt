@@ -16,14 +16,14 @@ returns-2 c =
     let s = c .before .before .before .before .args .image .now in
     head-22 s (not-short s (c .before .before .if1 .left)) (magic-wrong s _ (c .before .read64 .ensures) (c .if2 .taken))
 
-read32-requires : tie.Need-read32-requires
-read32-requires c κs = search needs
+version-in-requires : tie.Need-version-in-requires
+version-in-requires c κs = search needs
 
 returns-3 : tie.Need-returns-3
 returns-3 c =
     let s = c .before .before .before .before .before .before .args .image .now in
     head-23 s (not-short s (c .before .before .before .before .if1 .left)) (magic-right s _ (c .before .before .before .read64 .ensures) (c .before .before .if2 .left))
-    (version-above s _ (c .before .read32 .ensures) (c .if3 .taken))
+    (version-above s _ (c .before .version-in .ensures) (c .if3 .taken))
 
 row-in-requires : tie.Need-row-in-requires
 row-in-requires c κs = search needs
@@ -36,7 +36,7 @@ returns-4 c =
     let s = c .before .before .before .before .before .before .before .before .before .args .image .now in
     let r = c .before .before .row-in .ensures in
     head-21-header s (not-short s (c .before .before .before .before .before .before .before .if1 .left)) (magic-right s _ (c .before .before .before .before .before .before .read64 .ensures) (c .before .before .before .before .before .if2 .left))
-    (version-known s _ (c .before .before .before .before .read32 .ensures) (c .before .before .before .if3 .left))
+    (version-known s _ (c .before .before .before .before .version-in .ensures) (c .before .before .before .if3 .left))
     (header-cut s _ r (c .if4 .taken))
 
 missized-requires : tie.Need-missized-requires
@@ -47,7 +47,7 @@ returns-5 c =
     let s = c .before .before .before .before .before .before .before .before .before .before .before .args .image .now in
     let r = c .before .before .before .before .row-in .ensures in
     head-24 s (not-short s (c .before .before .before .before .before .before .before .before .before .if1 .left)) (magic-right s _ (c .before .before .before .before .before .before .before .before .read64 .ensures) (c .before .before .before .before .before .before .before .if2 .left))
-    (version-known s _ (c .before .before .before .before .before .before .read32 .ensures) (c .before .before .before .before .before .if3 .left))
+    (version-known s _ (c .before .before .before .before .before .before .version-in .ensures) (c .before .before .before .before .before .if3 .left))
     (header-fits s _ r (c .before .before .if4 .left))
     (size-said s _ _ (c .before .missized .ensures) (c .if5 .taken))
 
@@ -62,7 +62,7 @@ returns-6 c =
     let s = c .before .before .before .before .before .before .before .before .before .before .before .before .before .before .args .image .now in
     let r = c .before .before .before .before .before .before .before .row-in .ensures in
     head-none s (not-short s (c .before .before .before .before .before .before .before .before .before .before .before .before .if1 .left)) (magic-right s _ (c .before .before .before .before .before .before .before .before .before .before .before .read64 .ensures) (c .before .before .before .before .before .before .before .before .before .before .if2 .left))
-    (version-known s _ (c .before .before .before .before .before .before .before .before .before .read32 .ensures) (c .before .before .before .before .before .before .before .before .if3 .left))
+    (version-known s _ (c .before .before .before .before .before .before .before .before .before .version-in .ensures) (c .before .before .before .before .before .before .before .before .if3 .left))
     (header-fits s _ r (c .before .before .before .before .before .if4 .left))
     (size-said s _ _ (c .before .before .before .before .missized .ensures) (c .before .before .before .if5 .left))
     (page-said s _ _ _ (c .before .before .page-in .ensures) (c .before .is-page .ensures) (c .if6 .taken))
@@ -72,7 +72,7 @@ returns-7 c =
     let s = c .before .before .before .before .before .before .before .before .before .before .before .before .before .before .args .image .now in
     let r = c .before .before .before .before .before .before .before .row-in .ensures in
     head-25 s (not-short s (c .before .before .before .before .before .before .before .before .before .before .before .before .if1 .left)) (magic-right s _ (c .before .before .before .before .before .before .before .before .before .before .before .read64 .ensures) (c .before .before .before .before .before .before .before .before .before .before .if2 .left))
-    (version-known s _ (c .before .before .before .before .before .before .before .before .before .read32 .ensures) (c .before .before .before .before .before .before .before .before .if3 .left))
+    (version-known s _ (c .before .before .before .before .before .before .before .before .before .version-in .ensures) (c .before .before .before .before .before .before .before .before .if3 .left))
     (header-fits s _ r (c .before .before .before .before .before .if4 .left))
     (size-said s _ _ (c .before .before .before .before .missized .ensures) (c .before .before .before .if5 .left))
     (page-said s _ _ _ (c .before .before .page-in .ensures) (c .before .is-page .ensures) (c .if6 .left))
@@ -80,4 +80,4 @@ returns-7 c =
 pub header-refusal-spec : {M : Type 1} → statement M
 header-refusal-spec =
     tie.close
-    (tie.spec returns read64-requires returns-2 read32-requires returns-3 row-in-requires cast-if4 returns-4 missized-requires returns-5 page-in-requires is-page-requires returns-6 returns-7)
+    (tie.spec returns read64-requires returns-2 version-in-requires returns-3 row-in-requires cast-if4 returns-4 missized-requires returns-5 page-in-requires is-page-requires returns-6 returns-7)
