@@ -11,7 +11,7 @@ use lib.ListN.{length, getD}
 use borrow.Author.Tests.{ltb-true, ltb-false, ne-eqb}
 use Rattle.rules.proofs.Table.{both-left, both-right, at}
 use Rattle.boot_launch_rules.specs.declared.Rule.{Rule}
-use Rattle.boot_launch_rules.specs.Rules.{Pair, plain, generic, badRequest, plainRule, genericRule, ruleOf, pairs, ruleOfPair, ruleIn, RuleTable}
+use Rattle.boot_launch_rules.specs.Rules.{Pair, plain, generic, badRequest, plainRule, genericRule, ruleOf, pairs, ruleOfPair, RuleTable}
 use Rattle.boot_launch_rules.specs.Theorems.{EveryPair, RulesOfAll}
 
 -- what all pairs take

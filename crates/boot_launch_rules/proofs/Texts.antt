@@ -18,7 +18,7 @@ use Rattle.boot_rules.specs.declared.Layout.{Layout}
 use Rattle.boot_rules.specs.Tests as boot
 use Rattle.boot_launch_rules.specs.Rules.{Pair, plain, generic, withEach, pairsOf, pairs}
 use Rattle.boot_launch_rules.specs.Tests.{answer}
-use Rattle.boot_launch_rules.specs.Text.{kernelWord, pairLine, lineBy, takenLine, takenLines, refusedLine, textOf, text, most, TextMost}
+use Rattle.boot_launch_rules.specs.Text.{pairLine, lineBy, takenLine, takenLines, refusedLine, textOf, text, most, TextMost}
 
 -- the last of four lists
 outward : (a b x y : List ℕ) → a ++ (b ++ (x ++ y)) ≡ a ++ (b ++ x) ++ y
