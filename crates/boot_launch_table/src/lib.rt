@@ -1,4 +1,5 @@
 // The rule table by launch release as a constant: one row a pair of release and kernel, in order of release, plain first.
+use boot_launch_rules::GENERIC;
 use boot_launch_rules::Rule;
 ghost use mathlib.Core.Path.{_≡_};
 ghost use Rattle.boot_launch_rules.specs.Rules.{ruleOf, RuleTable};
@@ -100,7 +101,7 @@ pub fn rule_of(release: u32, kernel: u32) -> Rule
     if 13 < release {
         return BAD;
     }
-    if 1 < kernel {
+    if GENERIC < kernel {
         return BAD;
     }
     let table = rules();

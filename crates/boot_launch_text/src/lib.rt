@@ -1,26 +1,14 @@
 // The text that says which pairs of release and kernel take a boot image, line after line.
 use boot_image::locate;
 use boot_launch::locate_for;
+use boot_launch_lines::put_pair;
+use boot_launch_lines::put_refused;
+use boot_launch_rules::GENERIC;
+use boot_launch_rules::PLAIN;
 use boot_rules::Located;
 ghost use Rattle.text_rules.specs.Put.{Put};
 ghost use Rattle.boot_launch_rules.specs.Rules.{withEach, pairs};
-ghost use Rattle.boot_launch_rules.specs.Text.{pairLine, takenLine, takenLines, refusedLine, text};
-
-// The kernels.
-const PLAIN: u32 = 0;
-
-const GENERIC: u32 = 1;
-
-// Puts the line of a pair.
-fn put_pair(out: &mut [u8], at: usize, release: u32, kernel: u32) -> usize
-    ensures { λ r. ⌜ Put (now (out .entry)) at (pairLine (record { release = release; kernel = kernel })) (now (out .exit)) r ⌝ }
-{
-    let next = text::put_number(out, at, release as u64);
-    if kernel == PLAIN {
-        return text::put(out, next, b" plain\n");
-    }
-    text::put(out, next, b" generic\n")
-}
+ghost use Rattle.boot_launch_rules.specs.Text.{takenLine, takenLines, text};
 
 // Puts the line of a pair where it takes the image, and nothing where it does not.
 fn put_taken(out: &mut [u8], at: usize, release: u32, kernel: u32, image: &[u8]) -> usize
@@ -50,14 +38,6 @@ fn put_releases(out: &mut [u8], image: &[u8]) -> usize
         next = put_release(out, next, release, image);
     }
     next
-}
-
-// Puts the line of a refusal.
-fn put_refused(out: &mut [u8], number: u32) -> usize
-    ensures { λ r. ⌜ Put (now (out .entry)) 0 (refusedLine number) (now (out .exit)) r ⌝ }
-{
-    let next = text::put_labelled(out, 0, b"refused ", number as u64);
-    text::put(out, next, b"\n")
 }
 
 // Puts the text of an input at the start of a buffer, and answers the place after it.

@@ -1,11 +1,11 @@
--- `boot_launch_text::put_refused` meets its contract.
+-- `boot_launch_lines::put_refused` meets its contract.
 -- Assumes nothing.
 use native.Mathlib.Omega.{arith}
 use Rattle.text_rules.proofs.Putting.{put-then}
 use Rattle.boot_launch_rules.specs.Text.{refusedLine}
 use borrow.Author.Needs.{needs}
-use Rattle.boot_launch_text.proofs.put_refused.Statement.{statement}
-use Rattle.boot_launch_text.proofs.put_refused.Tie as tie
+use Rattle.boot_launch_lines.proofs.put_refused.Statement.{statement}
+use Rattle.boot_launch_lines.proofs.put_refused.Tie as tie
 
 slice-aggregate-put-labelled : tie.Need-slice-aggregate-put-labelled
 slice-aggregate-put-labelled c = search needs

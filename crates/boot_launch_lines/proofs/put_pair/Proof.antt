@@ -1,12 +1,12 @@
--- `boot_launch_text::put_pair` meets its contract: the release, and then the word of its kernel.
+-- `boot_launch_lines::put_pair` meets its contract: the release, and then the word of its kernel.
 -- Assumes nothing.
 use native.Mathlib.Omega.{arith}
 use borrow.Author.Tests.{eq-eqb, ne-eqb}
 use Rattle.text_rules.proofs.Putting.{put-then}
 use Rattle.boot_launch_rules.specs.Text.{pairLine}
 use borrow.Author.Needs.{needs}
-use Rattle.boot_launch_text.proofs.put_pair.Statement.{statement}
-use Rattle.boot_launch_text.proofs.put_pair.Tie as tie
+use Rattle.boot_launch_lines.proofs.put_pair.Statement.{statement}
+use Rattle.boot_launch_lines.proofs.put_pair.Tie as tie
 
 put-number-requires : tie.Need-put-number-requires
 put-number-requires c κs = search needs
