@@ -1,21 +1,17 @@
 -- The lines of the releases, put one after the other.
 -- Assumes nothing.
 use mathlib.Core.Path.{_≡_, refl, _∙_, subst}
-use mathlib.Core.List.{List, [], flatten}
+use mathlib.Core.List.{List, flatten}
 use Prim.Native.Nat.{ℕ, suc, _+_, _-_, _≤_, _<_}
 use native.Mathlib.Omega.{arith}
 use lib.Dec.{eqb, eqb→eq}
 use lib.ListN.{length, getD, take}
 use Rattle.rules.proofs.Table.{at}
 use Rattle.text_rules.specs.Put.{Put}
-use Rattle.text_rules.proofs.Putting.{put-then, put-length}
+use Rattle.text_rules.proofs.Putting.{put-nothing, put-then, put-length}
 use Rattle.boot_launch_rules.specs.Rules.{withEach, releases, pairsOf, pairs}
 use Rattle.boot_launch_rules.specs.Text.{takenLines}
 use Rattle.boot_launch_rules.proofs.Texts.{lines-next}
-
--- nothing put
-pub put-nothing : {a : List ℕ} {at : ℕ} → at < 0x10000000000000000 → Put a at [] a at
-put-nothing h = record { stored = refl; past = omega arith }
 
 -- the release at a place
 release-at : (k : ℕ) → k < 6 → getD releases k 0 ≡ 8 + k

@@ -2,7 +2,7 @@
 -- Assumes nothing.
 use mathlib.Core.Path.{_≡_, refl, sym, ap, _∙_}
 use mathlib.Core.Bool.{Bool, true, false}
-use mathlib.Core.List.{List, _++_}
+use mathlib.Core.List.{List, [], _++_}
 use Prim.Native.Nat.{ℕ, _+_, _≤_, _<_}
 use native.Mathlib.Omega.{arith}
 use borrow.Author.Tests.{ltb-true, ltb-false}
@@ -15,6 +15,10 @@ use Rattle.text_rules.specs.Put.{Put}
 -- a buffer keeps its length
 pub put-length : {a b : List ℕ} {at n : ℕ} {x : List ℕ} → Put a at x b n → length b ≡ length a
 put-length {a} {b} {at} {n} {x} p = ap length (p .stored) ∙ length-sets a at x
+
+-- nothing is put: the buffer stays, and so does the place
+pub put-nothing : {a : List ℕ} {at : ℕ} → at < 0x10000000000000000 → Put a at [] a at
+put-nothing h = record { stored = refl; past = omega arith }
 
 -- one part after another: where the place for the second is the last one, it lies past the end, as the part would
 pub put-then : {a b c : List ℕ} {at m n : ℕ} {x y : List ℕ} → length a < 0x10000000000000000 → Put a at x b m → Put b m y c n → Put a at (x ++ y) c n

@@ -1,10 +1,10 @@
 -- `boot_launch_text::put_taken` meets its contract.
 -- Assumes nothing.
 use mathlib.Core.Path.{sym, ap, _∙_}
+use Rattle.text_rules.proofs.Putting.{put-nothing}
 use Rattle.boot_rules.specs.Tests.{answerOf}
 use native.Mathlib.Omega.{arith}
 use Rattle.boot_launch_rules.proofs.Texts.{line-there, line-none}
-use Rattle.boot_launch_text.proofs.Releases.{put-nothing}
 use borrow.Author.Needs.{needs}
 use Rattle.boot_launch_text.proofs.put_taken.Statement.{statement}
 use Rattle.boot_launch_text.proofs.put_taken.Tie as tie
