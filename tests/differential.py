@@ -42,6 +42,7 @@ import cases_launch
 import cases_passes
 import cases_slots
 import cases_sparse
+import cases_start
 import cases_store
 import cases_write
 import compare
@@ -50,6 +51,7 @@ import join
 import launch
 import passes
 import sparse
+import starter
 import store
 import writer
 from cases_common import below, pick, some_bytes, u32, u64
@@ -647,6 +649,59 @@ def slots_call(operation: int, takes_slot: bool) -> Callable[[random.Random], Ca
     return make
 
 
+# The starter.
+
+def image_with_sections(rng: random.Random) -> bytes:
+    """A boot image with any sections, whole or cut, and texts in its header."""
+    image = cases_boot.random_image(rng)
+    for text in boot.TABLE[fields.read(image, boot.VERSION_AT, 4)].cmdlines:
+        image = build.with_bytes(image, text.at, cases_start.random_text(rng, text.length))
+    return image
+
+
+def starter_image(rng: random.Random) -> bytes:
+    """An image for a place: mostly a header with texts, or one with sections; damaged; with one of
+    the boot refusals; or few bytes, or none."""
+    kind = below(rng, 16)
+    if kind == 0:
+        return some_bytes(rng, pick(rng, (0, below(rng, 90))))
+    if kind <= 3:
+        return pick(rng, cases_start.refused_images())
+    if kind == 4:
+        return image_with_sections(rng)
+    image = cases_start.random_image(rng)
+    return damaged(rng, image, pick(rng, (48, 1664))) if kind == 5 else image
+
+
+def starter_record(rng: random.Random) -> bytes:
+    """The bytes of a record that mostly starts a slot, or of any, or such that are none."""
+    record = pick(rng, (cases_start.random_record(rng),) * 5 + (any_record(rng),))
+    given = cases_start.record_bytes(record)
+    return no_record(rng, given) if below(rng, 16) == 0 else given
+
+
+def loader_line(rng: random.Random, rest: int) -> bytes:
+    """A short line, or one with which all has as many bytes as a line may have, or nearly so; or
+    one that is longer alone."""
+    near = max(0, starter.LONGEST_LINE - rest + pick(rng, (-1, 0, 0, 0, 1, 1, 2)))
+    short = below(rng, 90)
+    longer = starter.LONGEST_LINE + below(rng, 300)
+    return many_bytes(rng, pick(rng, (0, 1) + (short,) * 9 + (near,) * 4 + (longer,)))
+
+
+def start_call(rng: random.Random) -> Call:
+    """`start`: kind, started slot, the line's length, then as `locate`; the line stands in the
+    space.  The record's bytes are as Start leaves them, also with a refusal after it."""
+    images = tuple(starter_image(rng) for _ in range(PLACES))
+    case = cases_start.Case(starter_record(rng), images, cases_start.random_misc(rng), b"", 0)
+    line = loader_line(rng, cases_start.needed_room(case))
+    case = cases_start.fitted(case._replace(line=line), cases_start.random_spare(rng))
+    space = many_bytes(rng, case.room)
+    number, answer, record, after = cases_start.result_of(case, space)
+    read = (*images, case.misc, line)
+    return Call((case.record, *read, space), number, answer, (record, *read, after))
+
+
 # Passes.
 
 BEGIN = Function("pass_begin", (64, 64, "state"), 0, returns=False)
@@ -866,6 +921,7 @@ KINDS = (
     single("slots_modified", ("record", 32), 2, slots_call(cases_slots.MODIFIED, True)),
     single("slots_corrupted", ("record", 32), 2, slots_call(cases_slots.CORRUPTED, True)),
     single("slots_confirm", ("record",), 2, slots_call(cases_slots.CONFIRM, False)),
+    single("start", ("record",) + ("bytes",) * 7, 20, start_call),
     Kind("pass", PASS_FUNCTIONS, pass_calls),
     Kind("forged_pass", PASS_FUNCTIONS, forged_calls),
 )

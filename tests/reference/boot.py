@@ -17,18 +17,29 @@ RECOVERY = "recovery"
 OFFERED = ("kernel", "ramdisk", RECOVERY, "dtb", "signature")
 
 
+class Text(NamedTuple):
+    """Where a text of the header begins, and how many bytes its field has."""
+
+    at: int
+    length: int
+
+
 class Row(NamedTuple):
     """A version's row: header length, positions of its fields (None where the
-    version lacks one) and of the size of each section, in section order."""
+    version lacks one), of its cmdline, with the extra cmdline where it has one, and of the
+    size of each section, in section order."""
 
     header_length: int
     header_size_at: Optional[int]
     page_size_at: Optional[int]
     os_version_at: int
     recovery_offset_at: Optional[int]
+    cmdlines: Tuple[Text, ...]
     size_at: Tuple[Tuple[str, int], ...]
 
 
+OLD_CMDLINES = (Text(64, 512), Text(608, 1024))
+NEW_CMDLINES = (Text(44, 1536),)
 OLD_SIZES = (("kernel", 8), ("ramdisk", 16), ("second", 24))
 RECOVERY_SIZE = (RECOVERY, 1632)
 DTB_SIZE = ("dtb", 1648)
@@ -37,11 +48,11 @@ SIGNATURE_SIZE = ("signature", 1580)
 
 # "One table of field positions serves all five versions."
 TABLE = (
-    Row(1632, None, 36, 44, None, OLD_SIZES),
-    Row(1648, 1644, 36, 44, 1636, OLD_SIZES + (RECOVERY_SIZE,)),
-    Row(1660, 1644, 36, 44, 1636, OLD_SIZES + (RECOVERY_SIZE, DTB_SIZE)),
-    Row(1580, 20, None, 16, None, NEW_SIZES),
-    Row(1584, 20, None, 16, None, NEW_SIZES + (SIGNATURE_SIZE,)),
+    Row(1632, None, 36, 44, None, OLD_CMDLINES, OLD_SIZES),
+    Row(1648, 1644, 36, 44, 1636, OLD_CMDLINES, OLD_SIZES + (RECOVERY_SIZE,)),
+    Row(1660, 1644, 36, 44, 1636, OLD_CMDLINES, OLD_SIZES + (RECOVERY_SIZE, DTB_SIZE)),
+    Row(1580, 20, None, 16, None, NEW_CMDLINES, NEW_SIZES),
+    Row(1584, 20, None, 16, None, NEW_CMDLINES, NEW_SIZES + (SIGNATURE_SIZE,)),
 )
 NEW_PAGE_SIZE = 4096
 
@@ -154,6 +165,12 @@ def read_recovery_offset(image: bytes, row: Row) -> int:
 def read_os_version(image: bytes, row: Row) -> int:
     """All four bytes of the os version, which no test of 01's looks at."""
     return fields.read(image, row.os_version_at, 4)
+
+
+def read_cmdlines(image: bytes, row: Row) -> List[bytes]:
+    """All bytes of the cmdline, and of the extra cmdline where the version has one, which no test
+    of 01's looks at."""
+    return [image[text.at:text.at + text.length] for text in row.cmdlines]
 
 
 def offered(sections: List[Section]) -> List[Section]:

@@ -132,7 +132,7 @@ def stating(image: bytes, checksum: int) -> bytes:
 
 class BootPlan(NamedTuple):
     """The fields of a boot image header.  None is the right header size, and an os version that
-    holds the filler."""
+    holds the filler, which also fills up a cmdline that is shorter than its field."""
 
     version: int
     kernel: int = 0
@@ -146,6 +146,8 @@ class BootPlan(NamedTuple):
     header_size: Optional[int] = None
     os_version: Optional[int] = None
     magic: bytes = b"ANDROID!"
+    cmdline: bytes = b""
+    extra_cmdline: bytes = b""
     filler: int = 0
 
 
@@ -172,8 +174,14 @@ def os_version(plan: BootPlan) -> int:
     return filler_number(plan) if plan.os_version is None else plan.os_version
 
 
+def filled(given: bytes, length: int, filler: bytes) -> bytes:
+    """A text in a field of so many bytes."""
+    assert len(given) <= length
+    return given.ljust(length, filler)
+
+
 def old_boot_header(plan: BootPlan, header_size: int) -> bytes:
-    """Versions 0 to 2; addresses and texts hold the filler."""
+    """Versions 0 to 2; addresses and other texts hold the filler."""
     text = bytes([plan.filler])
     address = filler_number(plan)
     head = struct.pack(
@@ -190,7 +198,8 @@ def old_boot_header(plan: BootPlan, header_size: int) -> bytes:
         plan.version,
         os_version(plan),
     )
-    head += text * (16 + 512 + 32 + 1024)
+    head += text * 16 + filled(plan.cmdline, 512, text)
+    head += text * 32 + filled(plan.extra_cmdline, 1024, text)
     if plan.version >= 1:
         head += struct.pack("<IQI", plan.recovery, plan.recovery_offset, header_size)
     if plan.version >= 2:
@@ -199,11 +208,12 @@ def old_boot_header(plan: BootPlan, header_size: int) -> bytes:
 
 
 def new_boot_header(plan: BootPlan, header_size: int) -> bytes:
-    """Versions 3 and 4; reserved fields and texts hold the filler."""
+    """Versions 3 and 4; reserved fields hold the filler."""
+    assert plan.extra_cmdline == b""
     text = bytes([plan.filler])
     head = struct.pack("<8s3I", plan.magic, plan.kernel, plan.ramdisk, os_version(plan))
     head += struct.pack("<I", header_size) + text * 16
-    head += struct.pack("<I", plan.version) + text * 1536
+    head += struct.pack("<I", plan.version) + filled(plan.cmdline, 1536, text)
     if plan.version >= 4:
         head += struct.pack("<I", plan.signature)
     return head

@@ -6,7 +6,7 @@ on each, and shows one checksum for each block of records.
 
 import itertools
 import random
-from typing import Iterable, List, NamedTuple, Sequence, Tuple
+from typing import Iterable, List, NamedTuple, Optional, Sequence, Tuple
 
 import crc
 import slots
@@ -47,6 +47,16 @@ def record_values(record: Record) -> Tuple[int, ...]:
     """The 22 values of a record: five of each place, the current slot, the count."""
     places = [int(value) for slot in record.slots for value in slot]
     return tuple(places + [record.current, record.startable])
+
+
+def record_of(values: Sequence[int]) -> Optional[Record]:
+    """The record of 22 values; none where a flag is neither 0 nor 1."""
+    width = len(Slot._fields)
+    places = [values[at:at + width] for at in range(0, width * slots.PLACES, width)]
+    if any(flag > 1 for *flags, _ in places for flag in flags):
+        return None
+    a, b, c, d = (Slot(*(flag == 1 for flag in flags), tries) for *flags, tries in places)
+    return Record((a, b, c, d), *values[width * slots.PLACES:])
 
 
 def encoded(case: Case) -> bytes:

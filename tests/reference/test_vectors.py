@@ -31,6 +31,8 @@ from test_join import slow_join
 from test_launch import cases_in as launch_cases
 from test_launch import slow_values as slow_launch_values
 from test_passes import History
+from test_starter import cases_in as start_cases
+from test_starter import slow_values as slow_start_values
 
 LARGEST_IMAGE = 65536
 LARGEST_STORED_IMAGE = 8192
@@ -38,6 +40,8 @@ LARGEST_PARTITION = 4096
 LARGEST_WRITTEN = 69632
 LARGEST_COMPARED_IMAGE = 4096
 LARGEST_ROOM = 8192
+LARGEST_SPACE = 8192
+MOST_STARTS = 160
 MOST_NUMBERS = 96
 LARGEST_OUTPUT = 490_000
 RECORD = 22
@@ -170,6 +174,14 @@ def launch_lines(data: bytes) -> Lines:
     for case in launch_cases(data):
         assert len(case.image) <= LARGEST_IMAGE
         yield slow_launch_values(case)
+
+
+def start_lines(data: bytes) -> Lines:
+    cases = list(start_cases(data))
+    assert len(cases) <= MOST_STARTS
+    for case in cases:
+        assert case.room <= LARGEST_SPACE
+        yield slow_start_values(case)
 
 
 def sparse_cases(data: bytes) -> Iterator[Tuple[bytes, int]]:
@@ -336,6 +348,7 @@ READERS: Dict[str, Callable[[bytes], Lines]] = {
     "slotsum": slot_sum_lines,
     "boot": boot_lines,
     "launch": launch_lines,
+    "start": start_lines,
     "sparse": sparse_lines,
     "store": lines_of_steps(store_values),
     "passes": lines_of_steps(pass_values),

@@ -79,6 +79,17 @@ launch   case:  release u32, kernel u32 (0 plain, 1 generic; any other number is
          values: as in `boot`, for the boards of that launch release with that kernel; 41, 42
                 and 43 are among the refusals.
 
+start    case:  record of 22 u8 as in `slots`, but a flag may be any number; then u32 each the
+                length of image a, of b, of c, of d, of misc, of the loader's line, and of the
+                space (at most 8,192); then the bytes of these but for the space, one directly
+                after the other, as they are.
+         The space has byte i being (11 + 5 * i) % 256 at first.
+         values: NUMBER of the refusal or 0; KIND as in `slots`; the started SLOT and the line's
+                LENGTH, 0 unless it boots; the CHECKSUM of these: the 17 values of `boot` after
+                NUMBER for the image that is started, 8 bytes each, low byte first, all 0 unless
+                it boots; the 22 bytes of the record after; every byte of the space after.  A
+                record with a flag that is neither 0 nor 1 gives 31 and stays.
+
 sparse   case:  partition length u64, image
          values: NUMBER of the refusal or 0; its PLACE, or 0; blocks WRITTEN,
                 DON'T CARE and UNKNOWN, all 0 when refused.
@@ -160,6 +171,7 @@ import cases_launch
 import cases_passes
 import cases_slots
 import cases_sparse
+import cases_start
 import cases_store
 import cases_write
 from cases_common import Group
@@ -174,6 +186,7 @@ GROUPS: Tuple[Tuple[str, Callable[[random.Random], Group]], ...] = (
     ("slotsum", cases_slots.sum_group),
     ("boot", cases_boot.group),
     ("launch", cases_launch.group),
+    ("start", cases_start.group),
     ("sparse", cases_sparse.group),
     ("store", cases_store.group),
     ("passes", cases_passes.group),

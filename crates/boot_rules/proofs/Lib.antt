@@ -8,3 +8,4 @@ pub mod Tests
 pub mod Answers
 pub mod Offered
 pub mod Sound
+pub mod Lines

@@ -11,7 +11,7 @@ use Rattle.boot_rules.specs.declared.Section.{Section}
 use Rattle.boot_rules.specs.declared.Field.{Field}
 use Rattle.boot_rules.specs.declared.Row.{Row}
 use Rattle.boot_rules.specs.Pages.{roundUp}
-use Rattle.boot_rules.specs.Table.{SectionKind, has, number, rowOf, pageSize, osVersion, recoveryOffset, sectionKinds, sizeFields}
+use Rattle.boot_rules.specs.Table.{SectionKind, has, number, rowOf, pageSize, osVersion, recoveryOffset, cmdline, extraCmdline, sectionKinds, sizeFields}
 use Rattle.fields_rules.specs.Number.{numberAt}
 
 -- "the version stands at byte 40 in every header"
@@ -37,6 +37,14 @@ osIn s = number s (osVersion (rowIn s))
 -- the recovery offset that an image states
 abbrev pub offsetIn : List ℕ → ℕ
 offsetIn s = number s (recoveryOffset (rowIn s))
+
+-- where the cmdline of an image stands
+abbrev pub cmdlineIn : List ℕ → Field
+cmdlineIn s = cmdline (rowIn s)
+
+-- where its extra cmdline stands; a field without bytes where the version lacks it
+abbrev pub extraIn : List ℕ → Field
+extraIn s = extraCmdline (rowIn s)
 
 -- a section that the version lacks
 abbrev pub noSection : Section

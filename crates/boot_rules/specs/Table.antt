@@ -247,6 +247,14 @@ osVersion r = field (r .at .os) (r .width .os)
 abbrev pub recoveryOffset : Row → Field
 recoveryOffset r = field (r .at .offset) (r .width .offset)
 
+-- the cmdline field
+abbrev pub cmdline : Row → Field
+cmdline r = field (r .at .cmdline) (r .width .cmdline)
+
+-- the extra cmdline field
+abbrev pub extraCmdline : Row → Field
+extraCmdline r = field (r .at .extra) (r .width .extra)
+
 -- a kind of section: where its size stands in a row, and whether it is offered to callers; one that is not is retired
 pub record SectionKind : Type 0 where
   pub size : Row → Field
@@ -303,6 +311,11 @@ lastEnd (f ∷ fs) = max (f .at + f .width) (lastEnd fs)
 abbrev pub widths : List Field → ℕ
 widths [] = 0
 widths (f ∷ fs) = f .width + widths fs
+
+-- where the command line stands: "cmdline 64 (512)" and "extra cmdline 608 (1,024)" in versions 0 to 2; "cmdline 44 (1,536)" in versions 3 and 4, and no extra cmdline
+pub record LineFields : Type 0 where
+  pub early : (v : ℕ) → v ≤ 2 → (cmdline (rowOf v) ≡ field 64 512) × (extraCmdline (rowOf v) ≡ field 608 1024)
+  pub late : (v : ℕ) → 3 ≤ v → v ≤ 4 → (cmdline (rowOf v) ≡ field 44 1536) × (extraCmdline (rowOf v) ≡ lacking)
 
 -- byte k is one of so many bytes from a place on
 pub record Within (place size k : ℕ) : Type 0 where

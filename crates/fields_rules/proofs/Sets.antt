@@ -2,11 +2,11 @@
 -- Assumes nothing.
 use mathlib.Core.Path.{_≡_, refl, sym, ap, _∙_}
 use mathlib.Core.List.{List, [], _∷_, _++_, append-assoc}
-use Prim.Native.Nat.{ℕ, suc, _+_, _≤_, _<_}
+use Prim.Native.Nat.{ℕ, suc, _+_, _-_, _≤_, _<_}
 use native.Mathlib.Nat.{add-zero}
 use native.Mathlib.Omega.{arith}
-use lib.ListN.{length, set, take, drop, length-append}
-use lib.Seq.{sets, sets-eq, length-sets, set-out, set-set, set-comm, take-nil, take-all, take-at, drop-nil, drop-at, length-take-le}
+use lib.ListN.{length, getD, set, take, drop, length-append}
+use lib.Seq.{sets, sets-eq, length-sets, set-out, set-set, set-comm, take-nil, take-all, take-at, drop-nil, drop-at, length-take-le, getD-drop, getD-append-add}
 
 -- a list in two parts
 pub sets-append : (xs ys l : List ℕ) (i : ℕ) → sets l i (xs ++ ys) ≡ sets (sets l i xs) (i + length xs) ys
@@ -32,6 +32,13 @@ sets-start (v ∷ vs) (x ∷ l) = sets-after vs l v 0 ∙ ap (λ (r : List ℕ).
 -- where all has room
 pub sets-whole : (vs l : List ℕ) → length vs ≤ length l → sets l 0 vs ≡ vs ++ drop (length vs) l
 sets-whole vs l h = sets-start vs l ∙ rw (take-all (length l) vs h)
+
+-- what stands past a front is as it was without it
+pub past-front : (vs l : List ℕ) (i : ℕ) → length vs ≤ i → getD (vs ++ drop (length vs) l) i 0 ≡ getD l i 0
+past-front vs l i h =
+    let z : i ≡ length vs + (i - length vs) = omega arith in
+    ap (λ (k : ℕ). getD (vs ++ drop (length vs) l) k 0) z ∙ getD-append-add vs (drop (length vs) l) (i - length vs) 0
+    ∙ getD-drop (length vs) l (i - length vs) 0 ∙ ap (λ (k : ℕ). getD l k 0) (sym z)
 
 -- a byte before them can be stored first
 set-before : (vs l : List ℕ) (i j x : ℕ) → i < j → set (sets l j vs) i x ≡ sets (set l i x) j vs

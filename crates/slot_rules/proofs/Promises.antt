@@ -23,7 +23,7 @@ use Rattle.rules.proofs.Answer.{unless-number, has-number}
 use Rattle.slot_rules.proofs.Tests.{and-false}
 use Rattle.slot_rules.proofs.OneSlot.{clash, by-cond, corrupted-unsound, corrupted-stuck, starts-bootable, starts-intact}
 use Rattle.slot_rules.proofs.Answers.{starts-none, not-refused, refusedOr-numbered}
-use Rattle.slot_rules.proofs.Laws.{valid-in-use, valid-slots, valid-count, miscounted, count-invalid, count-told, start-own, start-other, on-slot-done, confirm-unsound, past-alike, fresh-made, fresh-none, fresh-past}
+use Rattle.slot_rules.proofs.Laws.{valid-in-use, valid-slots, valid-count, miscounted, count-invalid, count-told, start-invalid, start-own, start-other, on-slot-done, confirm-unsound, past-alike, fresh-made, fresh-none, fresh-past}
 use Rattle.slot_rules.proofs.Places.{replaced-here, by-place, each-valid, all-valid, in-use-used, counted-in, count-replaced, count-moves}
 use Rattle.slot_rules.proofs.Steps.{Made, Step, refusal, entry, step, invalid-answer}
 
@@ -244,6 +244,19 @@ module _ (r : Record) (v : valid r ≡ true) (z : r .startable ≡ 0) where
       over true l = no-start (firstOther r) (ap (λ (c : Change). c .answer) (start-other r v e) ∙ simp l)
       over false l = ap (λ (c : Change). c .answer) (start-other r v e) ∙ simp l
 
+-- Start never answers that a change is made
+pub decides : (r : Record) → isDone (startOf r .answer) ≡ false
+decides r = by (valid r) refl (mayStart (currentSlot r)) refl
+  where
+    over : (b : Bool) (m : Record) (k : ℕ) → isDone (cond b (change (starts k) (withCurrent m k)) (change recovery m) .answer) ≡ false
+    over true m k = refl
+    over false m k = refl
+
+    by : (a : Bool) → valid r ≡ a → (b : Bool) → mayStart (currentSlot r) ≡ b → isDone (startOf r .answer) ≡ false
+    by false v b e = ap (λ (c : Change). isDone (c .answer)) (start-invalid r v)
+    by true v true e = ap (λ (c : Change). isDone (c .answer)) (start-own r v e)
+    by true v false e = ap (λ (c : Change). isDone (c .answer)) (start-other r v e) ∙ over (ltb (firstOther r) 4) (replaced r (r .current) (marked (currentSlot r))) (firstOther r)
+
 -- the count of a fresh record, and beside its refusal
 pub fresh-count : (n : ℕ) → freshOf n .after .startable ≡ cond (leb 1 n && leb n 4) n 0
 unfolding freshOf
@@ -288,4 +301,4 @@ past-d = record {
 }
 
 pub promises : Promises
-promises = record { lawful = lawful; started = started; gives-way = gives-way; damages = damages; not-confirmed = not-confirmed; fresh-valid = fresh-valid; fresh-clear = fresh-clear; invalid = invalid; wrong-count = miscounted; counts = counts; none-starts = none-starts; count-read = count-told; fresh-count = fresh-count; refusal-numbers = refusal-numbers; past-d = past-d }
+promises = record { lawful = lawful; started = started; decides = decides; gives-way = gives-way; damages = damages; not-confirmed = not-confirmed; fresh-valid = fresh-valid; fresh-clear = fresh-clear; invalid = invalid; wrong-count = miscounted; counts = counts; none-starts = none-starts; count-read = count-told; fresh-count = fresh-count; refusal-numbers = refusal-numbers; past-d = past-d }

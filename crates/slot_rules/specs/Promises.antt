@@ -172,6 +172,8 @@ pub record PastD : Type 0 where
 pub record Promises : Type 0 where
   pub lawful : (o : Op) (r : Record) → Lawful o r
   pub started : (r : Record) (k : ℕ) → startOf r .answer ≡ accepted (starts k) → Started r k
+  -- Start starts a slot, answers Recovery or refuses, and never answers that a change is made
+  pub decides : (r : Record) → isDone (startOf r .answer) ≡ false
   -- "if current, Start marks it unbootable and clears its successful flag", also where the answer is Recovery
   pub gives-way : (r : Record) → valid r ≡ true → currentSlot r .corrupted ≡ true → (slotAt (startOf r .after) (r .current) .unbootable ≡ true) × (slotAt (startOf r .after) (r .current) .successful ≡ false)
   -- "A new operation sets the flag on any slot in use"

@@ -1,18 +1,19 @@
 -- The refusals of two images, one by one.
 -- Assumes nothing.
-use mathlib.Core.Path.{_≡_, refl, sym, ap, subst, _∙_}
+use mathlib.Core.Path.{_≡_, refl, sym, subst}
 use mathlib.Core.Bool.{Bool, true, false, not, _&&_}
-use mathlib.Core.List.{List, [], _∷_, _++_}
-use Prim.Native.Nat.{ℕ, _+_, _-_, _*_, _≤_}
+use mathlib.Core.List.{List, [], _∷_}
+use Prim.Native.Nat.{ℕ, _*_, _≤_}
 use native.Mathlib.Omega.{arith}
 use borrow.Author.Tests.{eqb-true, eq-eqb, le-ltb}
 use lib.Dec.{eqb}
-use lib.ListN.{length, getD, drop}
-use lib.Seq.{take-append-seam, getD-append-add, getD-drop}
+use lib.ListN.{length, drop}
+use lib.Seq.{take-append-seam}
 use Rattle.rules.specs.First.{first}
 use Rattle.rules.specs.Answer.{Answer, accepted, refused, unless, onward}
 use Rattle.rules.proofs.Answer.{unless-accepted, accepted-same}
 use Rattle.rules.proofs.Tests.{both}
+use Rattle.fields_rules.proofs.Sets.{past-front}
 use Rattle.sparse_rules.specs.declared.Chunk.{Chunk}
 use Rattle.sparse_rules.specs.declared.Counts.{Counts}
 use Rattle.sparse_rules.specs.declared.Header.{Header}
@@ -22,7 +23,7 @@ use Rattle.sparse_rules.specs.Judge.{judged}
 use Rattle.sparse_rules.specs.Answers as judge
 use Rattle.sparse_rules.proofs.Image.{answer-accepted, answer-refused}
 use Rattle.sparse_blocks_rules.specs.Blocks.{needed, found, blocksFound, blocks}
-use Rattle.sparse_blocks_rules.specs.Pairs.{sameGeometry, pairAnswer, refusedImage, leftBy, Accepted, Matched}
+use Rattle.sparse_blocks_rules.specs.Pairs.{sameGeometry, pairAnswer, refusedImage, Accepted, Matched}
 use Rattle.sparse_blocks_rules.specs.Theorems.{Judged, Ordered, Leaves}
 use Rattle.sparse_blocks_rules.proofs.Giving.{gives}
 use Rattle.sparse_blocks_rules.proofs.Own.{Own, found-own}
@@ -155,17 +156,11 @@ needed-is s e = rw e
 
 -- ---- the space
 
-left-past : (n : ℕ) (put space : List ℕ) (i : ℕ) → length put ≤ i → getD (leftBy (accepted n) put space) i 0 ≡ getD space i 0
-left-past n put space i h =
-    let z : i ≡ length put + (i - length put) = omega arith in
-    ap (λ (k : ℕ). getD (put ++ drop (length put) space) k 0) z ∙ getD-append-add put (drop (length put) space) (i - length put) 0
-    ∙ getD-drop (length put) space (i - length put) 0 ∙ ap (λ (k : ℕ). getD space k 0) (sym z)
-
 -- what an answer leaves in lent space
 pub leaves : Leaves
 leaves =
     record {
       start = λ n put space. take-append-seam put (drop (length put) space);
-      past = left-past;
+      past = λ n put space i h. past-front put space i h;
       refusal = λ n place put space. refl;
     }

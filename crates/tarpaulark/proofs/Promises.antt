@@ -3,6 +3,7 @@
 use Rattle.slot_rules.proofs.Promises as slots
 use Rattle.boot_rules.proofs.Answers as boot
 use Rattle.boot_launch_rules.proofs.Theorems as launch
+use Rattle.starter_rules.proofs.Theorems as starter
 use Rattle.sparse_rules.proofs.Theorems as images
 use Rattle.sparse_store_rules.proofs.Storing as storing
 use Rattle.sparse_stream_rules.proofs.Theorems as passes
@@ -23,4 +24,5 @@ promises =
       boot = boot.refusal-numbers;
       launch = launch.refusal-numbers;
       slots = slots.refusal-numbers;
+      start = starter.refusal-numbers;
     }

@@ -3,6 +3,7 @@
 use Rattle.slot_rules.specs.Promises as slots
 use Rattle.boot_rules.specs.Tests as boot
 use Rattle.boot_launch_rules.specs.Theorems as launch
+use Rattle.starter_rules.specs.Theorems as starter
 use Rattle.sparse_rules.specs.Theorems as images
 use Rattle.sparse_store_rules.specs.Storing as storing
 use Rattle.sparse_stream_rules.specs.Theorems as passes
@@ -21,3 +22,4 @@ pub record Promises : Type 0 where
   pub boot : boot.RefusalNumbers
   pub launch : launch.RefusalNumbers
   pub slots : slots.RefusalNumbers
+  pub start : starter.RefusalNumbers

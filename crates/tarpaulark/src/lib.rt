@@ -39,6 +39,7 @@ ghost use Rattle.sparse_diff_rules.specs.Diff as diff;
 ghost use Rattle.sparse_join_rules.specs.Join as joiner;
 ghost use Rattle.tarpaulark_numbers.specs.Numbers.{verdictNumbers, countNumbers, pairNumbers, chunkIn, chunkNumbers, headerNumbersBy, layoutNumbers};
 ghost use Rattle.slot_on_bytes.specs.OnBytes.{onBytes, freshBytes, bytesRefusal, bytesStartable};
+ghost use Rattle.tarpaulark_starter.specs.OnBytes.{startBytes};
 
 // Judges an image for a partition of so many bytes. Answers place, then blocks written, don't care, unknown.
 #[no_mangle]
@@ -361,4 +362,25 @@ pub extern "C" fn tarpaulark_slots_startable(bytes: &[u8; RECORD], out: &mut [u6
     let told = slot_on_bytes::startable(*bytes);
     *out = [told.startable];
     told.number
+}
+
+// Starts the crawler: Start, the started slot's image, of one for each of the places a to d, and the final command line,
+// which is put into the space. Answers kind, started slot and the line's length, then as the finder of sections does. A
+// refusal after Start leaves the bytes that Start leaves.
+#[no_mangle]
+pub extern "C" fn tarpaulark_start(
+    bytes: &mut [u8; RECORD],
+    a: &[u8],
+    b: &[u8],
+    c: &[u8],
+    d: &[u8],
+    misc: &[u8],
+    loader: &[u8],
+    space: &mut [u8],
+    out: &mut [u64; 20],
+) -> u32
+    ensures { λ r. ⌜ record { number = r; answer = now (out .exit); bytes = now (bytes .exit); space = now (space .exit) }
+        ≡ startBytes (now (bytes .entry)) (now (a .entry) ∷ now (b .entry) ∷ now (c .entry) ∷ now (d .entry) ∷ []) (now (misc .entry)) (now (loader .entry)) (now (space .entry)) ⌝ }
+{
+    tarpaulark_starter::start(bytes, a, b, c, d, misc, loader, space, out)
 }

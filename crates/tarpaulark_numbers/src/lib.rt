@@ -173,7 +173,7 @@ fn section_answer(s: Section) -> [u64; 3]
 }
 
 // A layout: its version, the five sections that are offered, and whether a retired one is present.
-fn layout_answer(l: Layout) -> [u64; 17]
+pub fn layout_answer(l: Layout) -> [u64; 17]
     ensures { λ r. ⌜ r ≡ foundNumbers l ⌝ }
 {
     let a = section_answer(l.kernel);

@@ -9,6 +9,7 @@ mod image_cases;
 mod pair_cases;
 mod pass_cases;
 mod slot_cases;
+mod start_cases;
 mod store_cases;
 mod support;
 
@@ -31,17 +32,19 @@ const BOOT: usize = 5;
 
 const LAUNCH: usize = 6;
 
-const SPARSE: usize = 7;
+const START: usize = 7;
 
-const STORE: usize = 8;
+const SPARSE: usize = 8;
 
-const PASSES: usize = 9;
+const STORE: usize = 9;
 
-const WRITE: usize = 10;
+const PASSES: usize = 10;
 
-const COMPARE: usize = 11;
+const WRITE: usize = 11;
 
-const JOIN: usize = 12;
+const COMPARE: usize = 12;
+
+const JOIN: usize = 13;
 
 // The lines of a group's cases, one after the other: the group's name, the case's number, its values.
 fn cases(group: usize, name: &[u8], file: &[u8]) {
@@ -58,6 +61,7 @@ fn cases(group: usize, name: &[u8], file: &[u8]) {
             SLOT_BLOCKS => slot_cases::block(rest),
             BOOT => image_cases::boot(rest),
             LAUNCH => image_cases::launch(rest),
+            START => start_cases::case(rest),
             SPARSE => image_cases::sparse(rest),
             STORE | PASSES => store_cases::case(rest),
             WRITE => image_cases::write(rest),

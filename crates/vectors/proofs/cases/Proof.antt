@@ -42,14 +42,17 @@ boot-requires c κs = search needs
 launch-requires : tie.Need-launch-requires Inv-loop μ-loop
 launch-requires c κs = search needs
 
+case-requires-4 : tie.Need-case-requires-4 Inv-loop μ-loop
+case-requires-4 c κs = search needs
+
 sparse-requires : tie.Need-sparse-requires Inv-loop μ-loop
 sparse-requires c κs = search needs
 
 write-requires : tie.Need-write-requires Inv-loop μ-loop
 write-requires c κs = search needs
 
-case-requires-4 : tie.Need-case-requires-4 Inv-loop μ-loop
-case-requires-4 c κs = search needs
+case-requires-5 : tie.Need-case-requires-5 Inv-loop μ-loop
+case-requires-5 c κs = search needs
 
 block-requires-2 : tie.Need-block-requires-2 Inv-loop μ-loop
 block-requires-2 c κs = search needs
@@ -94,10 +97,11 @@ cases-spec =
     block-requires
     boot-requires
     launch-requires
+    case-requires-4
     sparse-requires
     write-requires
     block-requires-2
-    case-requires-4
+    case-requires-5
     block-requires-3
     slice-aggregate-write-all
     write-all-requires-2
