@@ -26,15 +26,23 @@ void answer_in_json(void)
     answer.json = true;
 }
 
+bool answers_in_json(void)
+{
+    return answer.json;
+}
+
 void answer_to(const char *command)
 {
     answer.command = command;
 }
 
-static void put_string(const char *text)
+/* A string of so many bytes, zero bytes among them too; one stands after them, so that no character goes on there. */
+static void put_string_of(const char *text, size_t count)
 {
+    const char *end = text + count;
+
     putchar('"');
-    while (*text != '\0') {
+    while (text < end) {
         int length = character_length(text);
 
         if (length == 0)
@@ -48,6 +56,11 @@ static void put_string(const char *text)
         text += length == 0 ? 1 : length;
     }
     putchar('"');
+}
+
+static void put_string(const char *text)
+{
+    put_string_of(text, strlen(text));
 }
 
 static void put_key(const char *name)
@@ -107,6 +120,15 @@ void say_plain(const char *name, const char *text)
 {
     begin_member(name, false);
     put_text(text);
+}
+
+void say_bytes(const char *name, const char *bytes, size_t length)
+{
+    begin_member(name, false);
+    if (answer.json)
+        put_string_of(bytes, length);
+    else
+        fwrite(bytes, 1, length, stdout);
 }
 
 void say_letter(const char *name, char letter)
@@ -341,6 +363,17 @@ void name_image(const char *which, const char *path)
         return;
     }
     fprintf(stderr, "in the %s image, ", which);
+    put_name(path);
+    fputc('\n', stderr);
+}
+
+void name_image_of(char slot, const char *path)
+{
+    if (answer.json) {
+        say_text("name", path);
+        return;
+    }
+    fprintf(stderr, "in the image of slot %c, ", slot);
     put_name(path);
     fputc('\n', stderr);
 }

@@ -4,12 +4,14 @@
 #define ANSWER_H
 
 #include <stdbool.h>
+#include <stddef.h>
 #include <stdint.h>
 
 enum status { DONE = 0, REFUSED = 1, BAD_USE = 2, FAILED = 3, NOT_PRINTED = 4 };
 
-/* From now on one object is printed. */
+/* From now on one object is printed; whether it is. */
 void answer_in_json(void);
+bool answers_in_json(void);
 
 /* The command that is answered. */
 void answer_to(const char *command);
@@ -23,6 +25,9 @@ void say_plain(const char *name, const char *text);
 void say_letter(const char *name, char letter);
 void say_number(const char *name, uint64_t value);
 void say_flag(const char *name, bool set);
+
+/* A plain member of so many bytes, whatever they are; a zero byte stands after them. */
+void say_bytes(const char *name, const char *bytes, size_t length);
 
 /* A number that text says as a word, up to seven, and without its name. */
 void say_in_words(const char *name, uint64_t value);
@@ -62,8 +67,9 @@ enum status finish_text(void);
 enum status refuse(uint32_t number, uint64_t place);
 enum status refuse_because(uint32_t number, uint64_t place, const char *meaning);
 
-/* Says after a refusal in which of two images it is. */
+/* Says after a refusal in which of two images it is, or in the image of which slot. */
 void name_image(const char *which, const char *path);
+void name_image_of(char slot, const char *path);
 
 /* More words to an answer or a refusal, a line of their own on standard error. */
 void advise(const char *name, const char *words);

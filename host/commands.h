@@ -7,7 +7,7 @@
 #include <stdbool.h>
 #include <stdint.h>
 
-enum { MOST_WORDS = 3 };
+enum { MOST_WORDS = 3, SLOTS = 4 };
 
 struct request {
     const char *words[MOST_WORDS + 1]; /* those that are no option; then null */
@@ -17,7 +17,9 @@ struct request {
     bool has_length;
     uint64_t length; /* of an image that comes by standard input */
     bool map;        /* one of the two images in place of the list of runs */
-    const char *svg; /* null where there is none */
+    const char *svg; /* null where there is none; so are those below */
+    const char *images[SLOTS]; /* the boot image of each slot, from a on */
+    const char *misc, *loader_line;
 };
 
 enum status judge(const struct request *request);
@@ -30,6 +32,7 @@ enum status join(const struct request *request);
 enum status sections(const struct request *request);
 enum status rules(const struct request *request);
 enum status slots(const struct request *request);
+enum status start(const struct request *request);
 
 /* A decimal number up to `most`. */
 bool as_number(const char *text, uint64_t most, uint64_t *number);

@@ -66,6 +66,12 @@ static const struct command {
      "          is unbootable until set-active; status says in words how each slot stands, and\n"
      "          how many slots are startable: in use and neither unbootable nor corrupted; show\n"
      "          prints the record in short; SLOT is a letter from a on"},
+    {"start", 1, 1, IMAGE | MISC | LINE, start,
+     "start RECORD --image SLOT=FILE .. --misc FILE --line TEXT",
+     "starts a slot: picks it and takes its try, as slots RECORD start does, finds the sections\n"
+     "          of its boot image, and prints the kernel's command line, that line alone: TEXT, the\n"
+     "          image's line, androidboot.slot_suffix=_a with the letter of the slot, and\n"
+     "          skip_initramfs unless misc asks for recovery; where no slot may start it prints none"},
 };
 enum { COMMANDS = sizeof commands / sizeof commands[0] };
 
@@ -94,6 +100,11 @@ static const char options_help[] =
     "A slot record of 21 bytes, as tarpaulark 0.5.0 and 0.6.0 made it, lacks the count of\n"
     "startable slots; one of 17 bytes, as 0.4.0 and before made it, the flag corrupted too. They\n"
     "are refused with 31 and stay as they are; the man page says how to make new ones of them.\n"
+    "\n"
+    "--image names the boot image of a slot, a letter from a to d, and is given for each slot in\n"
+    "use; --misc the misc partition, of which the first 32 bytes are read; --line gives the\n"
+    "loader's line, which may be empty. What start takes stands in the record before the line is\n"
+    "printed, and also where the image is refused, or a line of more than 4,096 bytes.\n"
     "\n"
     "Images, partitions and records are locked while they are used; a busy one is left\n"
     "alone. Results are on the disk before they are printed.\n"

@@ -36,6 +36,8 @@ static const char *const meaning[] = {
     [TARPAULARK_BAD_RELEASE] = "the plain kernel goes with releases 8 to 13, the generic one with 11 to 13",
     [TARPAULARK_BAD_RELEASE_VERSION] = "header version not allowed for the release with that kernel",
     [TARPAULARK_BAD_RELEASE_OS] = "os version not 0, as it must be for the release with that kernel",
+    [TARPAULARK_BAD_MISC] = "misc under 32 bytes",
+    [TARPAULARK_BAD_LINE] = "the line needs more than 4,096 bytes",
 };
 
 const char *refusal_meaning(uint32_t number)

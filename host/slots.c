@@ -1,24 +1,9 @@
 /* The slot record. */
 #include "commands.h"
-#include "replace.h"
-#include "tarpaulark.h"
+#include "record.h"
 
-#include <errno.h>
-#include <fcntl.h>
 #include <stdio.h>
 #include <string.h>
-#include <unistd.h>
-
-/* Records of earlier versions, which only their length tells. */
-static const struct old_record {
-    int length;
-    const char *made_by, *lacks;
-} old_records[] = {
-    {21, "0.5.0 and 0.6.0", "the count of startable slots"},
-    {17, "0.4.0 and before", "the flag corrupted and the count of startable slots"},
-};
-
-static const char missing[] = "cannot be opened; see that it is there and that you may use it";
 
 /* What was answered stands in the record file; where the disk is in doubt, the words say what that means. */
 static enum status keep_record(
@@ -35,58 +20,7 @@ static enum status keep_record(
     if (starts)
         say_letter("slot", (char)('a' + answer[TARPAULARK_SLOTS_STARTED]));
     end_line();
-    if (error != 0 && (starts || recovers))
-        return troubled(place->path, "is replaced, and what this start takes is spent; only its folder may not be"
-                                     " on the disk. Go by the answer; see to the disk", error);
-    return stands(place, error);
-}
-
-/* Reads one byte more than a record has; how many there were. */
-static ssize_t read_record(const char *path, int file, uint8_t record[TARPAULARK_RECORD])
-{
-    uint8_t bytes[TARPAULARK_RECORD + 1] = {0};
-    ssize_t length = pread(file, bytes, sizeof bytes, 0);
-
-    if (length < 0)
-        failed(path, "cannot be read; see to the disk", errno);
-    memcpy(record, bytes, TARPAULARK_RECORD);
-    return length;
-}
-
-/* What a file is that has the length of an old record, with words before and after; null for any other length. */
-static const char *words_on_old(off_t length, const char *before, const char *after)
-{
-    static char text[320];
-
-    for (size_t i = 0; i < sizeof old_records / sizeof old_records[0]; i++)
-        if (old_records[i].length == length) {
-            snprintf(text, sizeof text, "%s is a slot record of %d bytes, as tarpaulark %s made it, without %s; to make"
-                     " a new one of it, see NOTES in the man page%s", before, old_records[i].length,
-                     old_records[i].made_by, old_records[i].lacks, after);
-            return text;
-        }
-    return NULL;
-}
-
-/* Refuses a file of so many bytes; of one that has the length of an old record it is said what it is. */
-static enum status refuse_record(ssize_t length)
-{
-    enum status status = refuse(TARPAULARK_BAD_RECORD, 0);
-    const char *old = words_on_old(length, "by its length this", "");
-
-    if (old != NULL)
-        advise("record", old);
-    return status;
-}
-
-static const uint8_t *slot_in(const uint8_t *record, char letter)
-{
-    return record + TARPAULARK_RECORD_SLOT * (letter - 'a');
-}
-
-static char current_of(const uint8_t *record)
-{
-    return (char)('a' + record[TARPAULARK_RECORD_CURRENT]);
+    return starts || recovers ? start_stands(place, error) : stands(place, error);
 }
 
 static void say_slot(char letter, const uint8_t *slot)
@@ -236,13 +170,10 @@ static enum status change(const char *path, const struct operation *operation, u
 {
     uint8_t record[TARPAULARK_RECORD];
     uint64_t answer[TARPAULARK_SLOTS_ANSWER];
-    struct place place = hold_place(path);
-    ssize_t length;
+    struct place place;
+    ssize_t length = hold_record(path, &place, record);
     uint32_t number;
 
-    if (place.held < 0)
-        failed(path, missing, ENOENT);
-    length = read_record(path, place.held, record);
     if (length != TARPAULARK_RECORD)
         return refuse_record(length);
     number = operation->run != NULL ? operation->run(record, answer) : operation->run_on(record, slot, answer);

@@ -1,8 +1,18 @@
 #include "words.h"
 
 #include <errno.h>
+#include <stdio.h>
 #include <stdlib.h>
 #include <string.h>
+
+/* An option: it is taken alone, or with the word after it. */
+struct known {
+    const char *name;
+    void (*take)(struct line *line);
+    void (*take_with)(struct line *line, const char *value);
+};
+
+static const struct known *option_named(const char *name);
 
 bool as_number(const char *text, uint64_t most, uint64_t *number)
 {
@@ -45,6 +55,43 @@ static void take_svg(struct line *line, const char *value)
     line->request.svg = value;
 }
 
+/* The boot image of a slot, as a=FILE; each slot has one. */
+static void take_image(struct line *line, const char *value)
+{
+    const char **image;
+    char text[64];
+
+    if (value == NULL || value[0] < 'a' || value[0] >= 'a' + SLOTS || value[1] != '=' || value[2] == '\0')
+        misused(NULL, "--image takes a slot, a letter from a to d, and the name of its boot image, as in a=FILE");
+    image = line->request.images + (value[0] - 'a');
+    snprintf(text, sizeof text, "--image names slot %c twice; name each slot once", value[0]);
+    if (*image != NULL)
+        misused(NULL, text);
+    *image = value + 2;
+    line->options |= IMAGE;
+}
+
+static void take_misc(struct line *line, const char *value)
+{
+    if (value == NULL || value[0] == '-')
+        misused(NULL, "--misc takes the name of a file; put ./ before one that begins with -");
+    if (line->request.misc != NULL)
+        misused(NULL, "--misc is given twice; name one file");
+    line->options |= MISC;
+    line->request.misc = value;
+}
+
+/* Any text, but for an option, before which the text was forgotten. */
+static void take_loader_line(struct line *line, const char *value)
+{
+    if (value == NULL || option_named(value) != NULL || strcmp(value, "--") == 0)
+        misused(NULL, "--line takes a text, which may be empty, and not an option");
+    if (line->request.loader_line != NULL)
+        misused(NULL, "--line is given twice; give one text");
+    line->options |= LINE;
+    line->request.loader_line = value;
+}
+
 static void take_dry_run(struct line *line)
 {
     line->options |= DRY_RUN;
@@ -57,32 +104,58 @@ static void take_map(struct line *line)
     line->request.map = true;
 }
 
+static void take_help(struct line *line)
+{
+    line->help = true;
+}
+
+static void take_version(struct line *line)
+{
+    line->version = true;
+}
+
+/* The form was chosen before any word was taken. */
+static void take_json(struct line *line)
+{
+    (void)line;
+}
+
+static const struct known known[] = {
+    {"--limit", NULL, take_limit},
+    {"--length", NULL, take_length},
+    {"--svg", NULL, take_svg},
+    {"--image", NULL, take_image},
+    {"--misc", NULL, take_misc},
+    {"--line", NULL, take_loader_line},
+    {"--dry-run", take_dry_run, NULL},
+    {"--map", take_map, NULL},
+    {"-h", take_help, NULL},
+    {"--help", take_help, NULL},
+    {"--version", take_version, NULL},
+    {"--json", take_json, NULL},
+};
+
+static const struct known *option_named(const char *name)
+{
+    for (size_t i = 0; i < sizeof known / sizeof known[0]; i++)
+        if (strcmp(name, known[i].name) == 0)
+            return known + i;
+    return NULL;
+}
+
 /* An option; how many words it is. */
 static int take_option(struct line *line, char **words)
 {
-    if (strcmp(words[0], "--limit") == 0) {
-        take_limit(line, words[1]);
-        return 2;
-    }
-    if (strcmp(words[0], "--length") == 0) {
-        take_length(line, words[1]);
-        return 2;
-    }
-    if (strcmp(words[0], "--svg") == 0) {
-        take_svg(line, words[1]);
-        return 2;
-    }
-    if (strcmp(words[0], "-h") == 0 || strcmp(words[0], "--help") == 0)
-        line->help = true;
-    else if (strcmp(words[0], "--version") == 0)
-        line->version = true;
-    else if (strcmp(words[0], "--dry-run") == 0)
-        take_dry_run(line);
-    else if (strcmp(words[0], "--map") == 0)
-        take_map(line);
-    else if (strcmp(words[0], "--json") != 0)
+    const struct known *option = option_named(words[0]);
+
+    if (option == NULL)
         misused(words[0], "is no option; see tarpaulark --help, and put -- before a name that begins with -");
-    return 1;
+    if (option->take != NULL) {
+        option->take(line);
+        return 1;
+    }
+    option->take_with(line, words[1]);
+    return 2;
 }
 
 static void take_word(struct line *line, const char *word)

@@ -2,13 +2,16 @@
  * Tarpaulark: judges and stores Android sparse images, whole or as they arrive in
  * pieces, compares two of them, joins two into one, writes them from flat bytes,
  * finds the sections of a boot image, says whether a board launched with a release
- * takes it, and keeps the slot record.
+ * takes it, keeps the slot record, and starts a slot: picks it, finds the sections of
+ * its boot image and writes the kernel's command line.
  *
  * Every function takes any input and always ends. It returns 0, or the number of
  * the first refusal that applies, and fills the lent array `answer`, whose length
  * is fixed; entries that do not apply are 0. A refusal stores nothing, lists
- * nothing, writes no image and changes no slot record, with one exception: a
- * storing pass that refuses late (see Passes, below).
+ * nothing, writes no image and no line and changes no slot record, with two
+ * exceptions: a storing pass that refuses late (see Passes, below), and
+ * tarpaulark_start, which leaves the record as Start left it also where it refuses
+ * after that.
  *
  * Nothing is allocated, nothing is kept between calls but in what is lent, and
  * nothing is read or written but what is lent. Calls on memory of their own may
@@ -21,9 +24,9 @@
  * answer, a record and a pass are lent whole, in the lengths that are named below,
  * and must not be null. Numbers are lent aligned as C has arrays of their type;
  * bytes may begin anywhere. What is written (a partition, an output, a space for
- * runs, a record, a pass, an answer) must not overlap anything else that is lent to
- * the call; what is only read may, so two images may be one and the same. Nobody
- * else writes to what is lent meanwhile.
+ * runs or for a line, a record, a pass, an answer) must not overlap anything else that
+ * is lent to the call; what is only read may, so two images may be one and the same.
+ * Nobody else writes to what is lent meanwhile.
  *
  * From 0.3.0 to 0.4.0 the answers of judge, store and of finishing a pass grew from
  * 3 entries to 4, and a pass from 104 bytes to 112. From 0.4.0 to 0.5.0 a slot
@@ -41,7 +44,8 @@
  * and library go together: a library before 0.10.0 writes two numbers past an array of
  * 17, and code compiled with an older header, or with numbers in place of the names
  * below, looks for recovery, dtb and signature in the wrong entries and reads two that
- * no call fills: compile it anew, with the names. 0.11.0 only adds to 0.10.0.
+ * no call fills: compile it anew, with the names. 0.11.0 only adds to 0.10.0, and
+ * 0.12.0 only to 0.11.0.
  *
  * Where it runs
  *
@@ -70,8 +74,10 @@
  * the image and then to write it, and both times scans these blocks, each up to its
  * first word that differs, and twice where its kind is another than that of the block
  * before it. Those that stay raw are gone over twice more, to copy them and for the
- * checksum. Blocks of all other chunks cost nothing of their own. All else takes a
- * fixed number of steps.
+ * checksum. Blocks of all other chunks cost nothing of their own. Starting a slot by
+ * tarpaulark_start takes time in proportion to the loader's line and to the line that
+ * is written, and otherwise a fixed number of steps, however long the images are. All
+ * else takes a fixed number of steps.
  *
  * What a restart assumes
  *
@@ -91,10 +97,10 @@
 #include <stdint.h>
 
 /* The version of the header, the library and the host tool; it stands only here. */
-#define TARPAULARK_VERSION "0.11.0"
+#define TARPAULARK_VERSION "0.12.0"
 
-/* Lengths of the answers, of a slot record and each slot in it, of the state of a
-   pass, and of a run in numbers. */
+/* Lengths of the answers, of a slot record and each slot in it, of what is lent of the
+   misc partition, of the state of a pass, and of a run in numbers. */
 #define TARPAULARK_JUDGE_ANSWER 4
 #define TARPAULARK_STORE_ANSWER 4
 #define TARPAULARK_STORE_LIMITED_ANSWER 2
@@ -104,8 +110,10 @@
 #define TARPAULARK_LOCATE_ANSWER 17
 #define TARPAULARK_SLOTS_ANSWER 2
 #define TARPAULARK_STARTABLE_ANSWER 1
+#define TARPAULARK_START_ANSWER 20
 #define TARPAULARK_RECORD 22
 #define TARPAULARK_RECORD_SLOT 5
+#define TARPAULARK_MISC 32
 #define TARPAULARK_PIECE_ANSWER 1
 #define TARPAULARK_FINISH_ANSWER 4
 #define TARPAULARK_PASS 112
@@ -137,11 +145,15 @@
 #define TARPAULARK_FIRST_RELEASE 8
 #define TARPAULARK_LAST_RELEASE 13
 
+/* The most bytes that the kernel's command line has. */
+#define TARPAULARK_MOST_LINE 4096
+
 /*
  * Refusals. Tests run in the order listed, but for 13 before 12, 27 before 26, and
  * for a pass 16, 14, 15 before all others; for compare and join the first image's
- * own, the second's own, 17, 18; for a launch release 41 before the boot image's own.
- * Chunks are tested in order, each fully before the next.
+ * own, the second's own, 17, 18; for a launch release 41 before the boot image's own;
+ * for tarpaulark_start 31, 51, the boot image's own, 52. Chunks are tested in order,
+ * each fully before the next.
  *
  * A sparse refusal carries a place: 0 for numbers 1 to 6, the chunk's offset for
  * 7, 8 and a passed total, the offset after the header and all chunks for a short
@@ -219,7 +231,12 @@ enum tarpaulark_refusal {
        (after 21 to 27) */
     TARPAULARK_BAD_RELEASE_VERSION = 42,
     /* os version not 0 where the release, with that kernel, wants 0 (after 42) */
-    TARPAULARK_BAD_RELEASE_OS = 43
+    TARPAULARK_BAD_RELEASE_OS = 43,
+    /* of the misc partition not 32 bytes are lent (after 31, and before 21) */
+    TARPAULARK_BAD_MISC = 51,
+    /* the line needs more bytes than the lent space has, or than 4,096 (after 21 to
+       27) */
+    TARPAULARK_BAD_LINE = 52
 };
 
 /* Positions in the answers of judge, store, a pass, store_limited and write. The
@@ -279,9 +296,9 @@ enum {
     TARPAULARK_DIFFERENT = 4    /* both do, each block with other bytes */
 };
 
-/* Positions in the answers of locate and locate_for: the version; then section number s
-   has its three numbers from TARPAULARK_SECTION(s) on; last, whether a retired section
-   is present. */
+/* Positions in the answers of locate and locate_for, and in that of start from
+   TARPAULARK_START_SECTIONS on: the version; then section number s has its three numbers
+   from TARPAULARK_SECTION(s) on; last, whether a retired section is present. */
 enum {
     TARPAULARK_VERSION_AT = 0,
     TARPAULARK_RETIRED_AT = 16,
@@ -319,12 +336,18 @@ enum {
     TARPAULARK_RECORD_STARTABLE = 21
 };
 
-/* Positions in the answer of a slot operation and in that of slots_startable, and
-   kinds of an operation's answer. */
+/* Positions in the answer of a slot operation, in that of slots_startable and in that
+   of start, and kinds of an answer of an operation or of start. */
 enum {
     TARPAULARK_SLOTS_KIND = 0,
     TARPAULARK_SLOTS_STARTED = 1,
     TARPAULARK_SLOTS_STARTABLE = 0 /* slots_startable: the count of startable slots */
+};
+enum {
+    TARPAULARK_START_KIND = 0,
+    TARPAULARK_START_SLOT = 1,    /* the started slot, 0 for a */
+    TARPAULARK_START_LENGTH = 2,  /* the line's length */
+    TARPAULARK_START_SECTIONS = 3 /* what locate answers for the slot's image begins here */
 };
 enum {
     TARPAULARK_DONE = 0,
@@ -747,6 +770,59 @@ uint32_t tarpaulark_slots_corrupted(
  */
 uint32_t tarpaulark_slots_confirm(
     uint8_t record[TARPAULARK_RECORD], uint64_t answer[TARPAULARK_SLOTS_ANSWER]);
+
+/*
+ * Starts a slot: runs Start on the record once, as tarpaulark_slots_start does, finds the
+ * sections of the started slot's boot image, as tarpaulark_locate does, and writes the
+ * kernel's command line to the first bytes of space. Reads the record, misc, the loader's
+ * line (line) and, of the images, the started slot's alone; writes the record and the line.
+ *
+ * An image is lent for each place of the record, a to d. For a place that is not in use
+ * any bytes do, and none at all too, null with 0. Of the misc partition its first
+ * TARPAULARK_MISC bytes are lent. Recovery is asked for when they begin with
+ * "boot-recovery" and a zero byte. The loader's line is any bytes, and none at all too.
+ *
+ * The line is, one directly after the other:
+ *
+ *    the loader's line  as it is, a zero byte in it too
+ *    a space            also where the loader's line is empty
+ *    the image's line   its cmdline up to the first zero byte or its end, which is 512
+ *                       bytes at 64 in versions 0 to 2 and 1,536 at 44 in versions 3
+ *                       and 4; then in versions 0 to 2 the extra cmdline, 1,024 bytes at
+ *                       608, read the same way, also where the cmdline ended early
+ *    the slot           " androidboot.slot_suffix=_a", with the letter of the started slot
+ *    how it starts      " skip_initramfs", unless recovery is asked for
+ *
+ * No zero byte is written at its end: the answer has its length, and a kernel that wants
+ * one gets it from the caller. Bytes of space past the line keep what they held, and all of
+ * them do after a refusal and where the answer is Recovery. The line has at most
+ * TARPAULARK_MOST_LINE bytes, so more space than that is of no use.
+ *
+ * Where Start answers Recovery, so does this: no slot may start, no image is read and no
+ * line is written. That recovery is asked for by misc is another thing: a slot starts then,
+ * with its line.
+ *
+ * Refusals, in this order: 31; 51; then, after Start, those of tarpaulark_locate for the
+ * started slot's image, 21, 22, 23, 21, 24, 25, 27, 26; 52, exactly when the line needs
+ * more bytes than space has or than 4,096. 31 and 51 leave the record as it was. All others
+ * leave it as Start left it: a slot that is not successful has lost a try, so one whose
+ * image is damaged is given up after some starts.
+ *
+ * So write the record to its place before anything else is done by the answer, and before
+ * the kernel is jumped to above all; also for Recovery, and for every refusal but 31 and
+ * 51. A try that is not written down is not spent.
+ *
+ * answer: kind (TARPAULARK_STARTS, _RECOVERY, _REFUSED); the started slot; the line's
+ * length; then the TARPAULARK_LOCATE_ANSWER entries that tarpaulark_locate answers for its
+ * image, whether a retired section is present among them. All but the kind are 0 for
+ * Recovery and after a refusal.
+ */
+uint32_t tarpaulark_start(
+    uint8_t record[TARPAULARK_RECORD],
+    const uint8_t *image_a, size_t image_a_len, const uint8_t *image_b, size_t image_b_len,
+    const uint8_t *image_c, size_t image_c_len, const uint8_t *image_d, size_t image_d_len,
+    const uint8_t *misc, size_t misc_len, const uint8_t *line, size_t line_len,
+    uint8_t *space, size_t space_len, uint64_t answer[TARPAULARK_START_ANSWER]);
 
 #ifdef __cplusplus
 }

@@ -39,13 +39,16 @@ import build
 import cases_boot
 import cases_compare
 import cases_launch
+import cases_slots
 import cases_store
 import compare
 import demo
 import join
 import launch
 import passes
+import slots
 import sparse
+import starter
 import store
 
 LONGEST_WAIT = demo.LONGEST_WAIT
@@ -160,8 +163,17 @@ FILES: Dict[str, bytes] = {
     "boot1": build.boot_image(1, 4097, kernel=2048, ramdisk=1),
     "boot4": build.boot_image(4, 8193, kernel=4096, ramdisk=1),
     "boot4-os": build.boot_image(4, 8193, kernel=4096, ramdisk=1, os_version=0x18000169),
+    "lined": build.boot_image(3, 12289, kernel=4097, ramdisk=1, cmdline=b"root=/dev/sda4 ro\0?"),
+    "lined-old": build.boot_image(2, 8193, kernel=2048, ramdisk=1, second=1, dtb=1, cmdline=b"root=/dev/sdb4\0?",
+                                  extra_cmdline=b" ro\0?"),
+    "misc": bytes(2048),
+    "misc-asking": b"boot-recovery".ljust(32, b"\0"),
+    "misc-short": bytes(31),
     "odd": record_of("12000"),
     "ends": record_of("10000 10100"),
+    "turns": record_of("10001 10100"),
+    "given-up": record_of("10000 10002"),
+    "spent": record_of("10007"),
     "miscounted": record_of("10003 10013", startable=2),
     "old21": record_of("10102 11000 10013 10003")[:21],
     "old17": bytes([1, 0, 1, 2] + [1, 1, 0, 0] + [0, 0, 0, 3] * 2 + [0]),
@@ -267,6 +279,11 @@ def taken_by(version: int, takers: str, others: str, no_os: str = "") -> str:
         lines += [f"refused {number} for {pairs}: {LAUNCH_MEANINGS[number]}"] * bool(pairs)
     return "\n".join(lines)
 
+
+# What goes before the options of `start`, and what it prints for the files above.
+BOTH = "--image a=lined --image b=lined-old"
+ENDS = "androidboot.slot_suffix=_{}"
+SKIPS = ENDS + " skip_initramfs"
 
 DRY = """ok written 6 skipped 3 unknown 1
 kept from 20 before 32
@@ -502,6 +519,62 @@ CASES = (
     Case("slots old21 fresh 2", 2, ""),
     Case("slots old17 start", 1, "refused 31 at 0"),
     Case("slots old17 fresh 2", 2, ""),
+    Case(f"start turns {BOTH} --misc misc --line quiet", 0, "quiet root=/dev/sda4 ro " + SKIPS.format("a")),
+    Case(f"start turns {BOTH} --misc misc --line 'console=ttyS0,115200 quiet'", 0,
+         "console=ttyS0,115200 quiet root=/dev/sdb4 ro " + SKIPS.format("b")),
+    Case(f"start --line quiet turns --misc misc-asking {BOTH}", 0, "quiet root=/dev/sdb4 ro " + ENDS.format("b")),
+    Case(f"start turns {BOTH} --misc misc --line ''", 0, " root=/dev/sdb4 ro " + SKIPS.format("b")),
+    Case(f"start turns {BOTH} --misc misc --line -quiet", 0, "-quiet root=/dev/sdb4 ro " + SKIPS.format("b")),
+    Case(f"start --misc misc --line quiet --image c=missing --image d=none {BOTH} -- turns", 0,
+         "quiet root=/dev/sdb4 ro " + SKIPS.format("b")),
+    Case("start turns --image a=boot4 --image b=boot1 --misc misc --line quiet", 0, "quiet  " + SKIPS.format("b")),
+    Case("start turns --image a=lined --image b=lined --misc lined --line quiet", 0,
+         "quiet root=/dev/sda4 ro " + SKIPS.format("b")),
+    Case(f"start given-up {BOTH} --misc misc --line quiet", 0, ""),
+    Case("start spent --image a=misc-short --misc misc --line quiet", 1, "refused 21 at 0"),
+    Case("start spent --image a=archived-cut --misc misc --line quiet", 1, "refused 26 at 0"),
+    Case("start spent --image a=archived-cut --misc misc-short --line quiet", 1, "refused 51 at 0"),
+    Case("start spent --image a=archived-cut --misc none --line quiet", 1, "refused 51 at 0"),
+    Case(f"start spent --image a=lined --misc misc --line {'x' * 4096}", 1, "refused 52 at 0"),
+    Case("start odd --image a=missing --misc missing --line quiet", 1, "refused 31 at 0"),
+    Case("start odd --misc misc-short --line quiet", 1, "refused 31 at 0"),
+    Case("start flat --image a=lined --misc misc --line quiet", 1, "refused 31 at 0"),
+    Case("start miscounted --misc misc --line quiet", 1, "refused 31 at 0"),
+    Case("start old21 --misc misc --line quiet", 1, "refused 31 at 0"),
+    Case("start old17 --misc misc --line quiet", 1, "refused 31 at 0"),
+    Case("start", 2, ""),
+    Case(f"start {BOTH} --misc misc --line quiet", 2, ""),
+    Case(f"start turns turns {BOTH} --misc misc --line quiet", 2, ""),
+    Case(f"start turns {BOTH} --misc misc --line quiet loud", 2, ""),
+    Case(f"start turns {BOTH} --misc misc", 2, ""),
+    Case(f"start turns {BOTH} --line quiet", 2, ""),
+    Case(f"start turns {BOTH} --misc misc --line", 2, ""),
+    Case(f"start turns {BOTH} --misc misc --line --version", 2, ""),
+    Case(f"start turns {BOTH} --misc misc --line -- quiet", 2, ""),
+    Case(f"start turns {BOTH} --line quiet --misc", 2, ""),
+    Case(f"start turns {BOTH} --misc -m --line quiet", 2, ""),
+    Case(f"start turns {BOTH} --misc misc --misc misc --line quiet", 2, ""),
+    Case(f"start turns {BOTH} --misc misc --line quiet --line quiet", 2, ""),
+    Case("start turns --misc misc --line quiet", 2, ""),
+    Case("start turns --image a=lined --misc misc --line quiet", 2, ""),
+    Case("start turns --image b=lined --misc missing --line quiet", 2, ""),
+    Case(f"start turns {BOTH} --image b=lined --misc misc --line quiet", 2, ""),
+    Case(f"start turns {BOTH} --image e=lined --misc misc --line quiet", 2, ""),
+    Case(f"start turns {BOTH} --image c --misc misc --line quiet", 2, ""),
+    Case(f"start turns {BOTH} --image c= --misc misc --line quiet", 2, ""),
+    Case(f"start turns {BOTH} --image lined --misc misc --line quiet", 2, ""),
+    Case(f"start turns {BOTH} --image =lined --misc misc --line quiet", 2, ""),
+    Case(f"start turns {BOTH} --misc misc --line quiet --image", 2, ""),
+    Case("start turns --image a=turns --image b=lined --misc misc --line quiet", 2, ""),
+    Case(f"start turns {BOTH} --misc turns --line quiet", 2, ""),
+    Case(f"start turns {BOTH} --misc misc --line quiet --limit 1", 2, ""),
+    Case("slots record show --misc misc", 2, ""),
+    Case("sections lined --image a=lined", 2, ""),
+    Case("sections lined --line quiet", 2, ""),
+    Case(f"start missing {BOTH} --misc misc --line quiet", 3, ""),
+    Case("start turns --image a=missing --image b=lined --misc misc --line quiet", 3, ""),
+    Case("start turns --image a=lined --image b=missing --misc misc --line quiet", 3, ""),
+    Case(f"start turns {BOTH} --misc missing --line quiet", 3, ""),
     Case("strange p2", 2, ""),
     Case("", 2, ""),
 )
@@ -532,9 +605,19 @@ LEFT: Dict[str, bytes] = {
     "old21": FILES["old21"],
     "old17": FILES["old17"],
     "record": record_of("10012 10003 00003 00003", "b"),
+    "turns": record_of("11000 10100", "b"),
+    "given-up": record_of("11000 10002"),
+    "spent": record_of("10004"),
+    "misc": FILES["misc"],
+    "lined": FILES["lined"],
 }
 
 TRIED = record_of("10003")
+
+# A start of that record, the same with an image that is refused, and what the first prints.
+START = "start tried --image a=lined --misc misc --line quiet"
+START_REFUSED = START.replace("lined", "archived-cut")
+STARTED = f"quiet root=/dev/sda4 ro {SKIPS.format('a')}\n"
 
 
 class CannotCheck(Exception):
@@ -552,7 +635,7 @@ class Tool:
         """The words of a process, by way of a shell where something follows them."""
         if shell:
             return ["sh", "-c", f'exec "$0" {words} {shell}', self.path]
-        return [self.path, *words.split()]
+        return [self.path, *shlex.split(words)]
 
     def environment(self, **faults: str) -> Dict[str, str]:
         """That of a run with faults, which need the loaded file."""
@@ -644,6 +727,10 @@ def closed_descriptors(tool: Tool) -> None:
         save("fresh", FILES["cut"])
         expect(tool.run("store p6 fresh", closed).returncode == 1, f"a refusal with {closed}")
         expect(read("fresh") == FILES["cut"], f"the partition after a refusal with {closed}")
+        for words, ends in ((START, status), (START_REFUSED, 1)):
+            save("tried", TRIED)
+            done = tool.run(words, closed)
+            expect(done.returncode == ends and read("tried") == record_of("10002"), f"{words} with {closed}", done)
 
 
 def printed_into_files(tool: Tool) -> None:
@@ -658,6 +745,7 @@ def printed_into_files(tool: Tool) -> None:
                         ("join p2 p7 p6", "p2"), ("join p2 p7 p6", "p7"), ("join p2 p7 p6", "p6"),
                         ("rules boot", "boot"), ("rules boot 12 plain", "boot"),
                         ("slots tried show", "tried"), ("slots tried start", "tried"),
+                        (START, "tried"), (START, "lined"), (START, "misc"),
                         ("write flat 8 p6", "p6"), ("judge - 12 --length 56 <p2", "p2"),
                         ("store - p6 --length 56 <p2", "p6"), ("store - p6 --length 56 <p2", "p2")):
         before = read(name)
@@ -681,7 +769,7 @@ def kinds_of_targets(tool: Tool) -> None:
     node = device_node("/dev/null", stat.S_IFCHR)
     for target in ("pipe", "folder", node):
         for words in ("write flat 8 {}", "slots {} fresh 2", "slots {} start", "map p2 --svg {}", "store p2 {}",
-                      "diff p2 p7 --svg {}", "join p2 p7 {}"):
+                      "diff p2 p7 --svg {}", "join p2 p7 {}", START.replace("tried", "{}")):
             expect_end(tool.run(words.format(target)), 2)
     expect(stat.S_ISFIFO(os.stat("pipe").st_mode), "the pipe is replaced")
     expect(stat.S_ISCHR(os.stat(node).st_mode), "the null device is replaced")
@@ -711,6 +799,7 @@ def block_devices(tool: Tool) -> None:
         expect_end(tool.run(f"write flat 8 {node}"), 2)
         expect_end(tool.run(f"join p2 p7 {node}"), 2)
         expect_end(tool.run(f"slots {node} fresh 2"), 2)
+        expect_end(tool.run(START.replace("tried", node)), 2)
         expect(stat.S_ISBLK(os.stat(node).st_mode), "the block device is replaced")
         held = os.open(device, os.O_RDONLY | os.O_EXCL)
         expect_end(tool.run(f"store image {device}"), 3, "busy")
@@ -737,11 +826,18 @@ def links(tool: Tool) -> None:
     expect(os.path.islink("link") and read("far/real")[TRIES] == 2, "the real record")
     expect((before.st_mode, before.st_uid, before.st_gid) == (after.st_mode, after.st_uid, after.st_gid),
            "owner and mode of the record")
+    expect_end(tool.run(START.replace("tried", "link")), 0)
+    again = os.stat("far/real")
+    expect(os.path.islink("link") and read("far/real")[TRIES] == 1, "the real record after a whole start")
+    expect((before.st_mode, before.st_uid, before.st_gid) == (again.st_mode, again.st_uid, again.st_gid),
+           "owner and mode of the record after a whole start")
     os.symlink("nowhere", "dangling")
     expect_end(tool.run("slots dangling fresh 2"), 2, "link to nothing")
+    expect_end(tool.run(START.replace("tried", "dangling")), 2, "link to nothing")
     os.link("far/real", "other")
     expect_end(tool.run("slots other start"), 2, "hard links")
-    expect(read("other")[TRIES] == 2, "a record with two names is changed")
+    expect_end(tool.run(START.replace("tried", "other")), 2, "hard links")
+    expect(read("other")[TRIES] == 1, "a record with two names is changed")
 
 
 @contextlib.contextmanager
@@ -769,6 +865,7 @@ def locks(tool: Tool) -> None:
         with locked("tried", kind):
             expect_end(tool.run("slots tried start"), 3, "is busy")
             expect_end(tool.run("slots tried fresh 2"), 3, "is busy")
+            expect_end(tool.run(START), 3, "is busy")
             expect_end(tool.run("slots tried show"), 0)
         with locked("p2", kind):
             status = 0 if kind == fcntl.LOCK_SH else 3
@@ -782,6 +879,11 @@ def locks(tool: Tool) -> None:
         with locked("boot", kind):
             for words in ("sections boot", "rules boot", "rules boot 12 plain"):
                 expect_end(tool.run(words), status)
+        for name in ("lined", "misc"):
+            save("other", TRIED)
+            with locked(name, kind):
+                expect_end(tool.run(START.replace("tried", "other")), status, "is busy" if status else "")
+            expect(read("other")[TRIES] == (3 if status else 2), f"the record while {name} is held")
     expect(read("cut") == FILES["cut"] and read("tried") == TRIED and read("p2") == FILES["p2"], "files while held")
 
 
@@ -790,7 +892,8 @@ def locks_to_the_end(tool: Tool) -> None:
     save("tried", TRIED)
     for words, others in (
         ("store p2 cut", ("store p2 cut", "store p2 cut --dry-run", "write flat 8 p2")),
-        ("slots tried start", ("slots tried start", "slots tried confirm", "slots tried fresh 2")),
+        ("slots tried start", ("slots tried start", "slots tried confirm", "slots tried fresh 2", START)),
+        (START, (START, "slots tried start", "slots tried fresh 2", "write flat 8 lined", "write flat 8 misc")),
         ("write flat 8 p6", ("write flat 8 p6", "judge p6 12", "write p2 4 flat")),
         ("join p2 p7 p6", ("join p2 p7 p6", "write flat 8 p6", "judge p6 12", "write flat 8 p2", "write flat 8 p7")),
     ):
@@ -802,9 +905,9 @@ def locks_to_the_end(tool: Tool) -> None:
 
 def starts_at_once(tool: Tool) -> None:
     """Of several starts at one time each takes its own try, or none."""
-    for _ in range(6):
+    for words in ("slots tried start", START) * 3:
         save("tried", record_of("10007"))
-        running = [tool.begin("slots tried start") for _ in range(6)]
+        running = [tool.begin(words) for _ in range(6)]
         ended = [(process.communicate(timeout=LONGEST_WAIT), process.returncode) for process in running]
         expect(all(status in (0, 3) for _, status in ended), f"statuses {ended}")
         taken = sum(status == 0 for _, status in ended)
@@ -817,6 +920,9 @@ def replaced_at_once(tool: Tool) -> None:
     save("another", record_of("10007"))
     expect_end(tool.run("slots tried start", SWAP="tried"), 0)
     expect(read("tried")[TRIES] == 6, f"{read('tried')[TRIES]} tries are left of the record that took the place")
+    save("another", record_of("10006"))
+    expect_end(tool.run(START, SWAP="tried"), 0)
+    expect(read("tried")[TRIES] == 5, f"{read('tried')[TRIES]} tries are left of the next that took the place")
     for words, faults in itertools.product(("write flat 8 image", "join p2 p7 image"), ({}, {"NO_NAMELESS": "1"})):
         with waiting(tool, words, **faults) as process:
             save("image", b"another's")
@@ -854,6 +960,24 @@ def changed_image(tool: Tool) -> None:
     expect(not os.path.exists("image"), "an image is made of changed ones")
 
 
+def changed_at_starts(tool: Tool) -> None:
+    """An image or misc that changes while a slot is started is told; nothing is printed, and no try is spent. The image
+    of a slot that is not picked is looked at, too."""
+    both = START.replace("--image", "--image b=lined-old --image")
+    changed, cut = "{}: changed while it was read; run the same command again", "to its end"
+    for words, name, fault, said in (
+        (both, "lined", "GROW", changed), (both, "lined", "CUT", cut), (both, "misc", "GROW", changed),
+        (both, "lined-old", "GROW", changed), (both, "lined-old", "CUT", changed),
+        (both.replace("a=lined", "a=archived-cut"), "archived-cut", "GROW", changed),
+        (both.replace("misc misc", "misc misc-short"), "misc-short", "GROW", changed),
+    ):
+        save("tried", record_of("10003 10003"))
+        done = tool.run(words, **{fault: name})
+        expect_end(done, 3, said.format(name))
+        expect(done.stdout == "" and read("tried") == record_of("10003 10003"), f"{words}: {fault} {name}", done)
+        save(name, FILES[name])
+
+
 def lost_partitions(tool: Tool) -> None:
     """A partition that is replaced, removed or cut while it is stored on is told, and is no success."""
     for lose in (
@@ -875,7 +999,7 @@ def bad_disk(tool: Tool) -> None:
     before = set(os.listdir("."))
     kept = [(words, {fault: "1"}, "nothing is changed") for fault in ("FULL", "BAD_FILE")
             for words in ("slots tried start", "slots new fresh 2", "map p2 --svg new", "map p2 --svg p6",
-                          "diff p2 p7 --svg new")]
+                          "diff p2 p7 --svg new", START, START_REFUSED)]
     for words, faults, said in kept + [
         ("write flat 8 p6", {"BAD_FILE": "1"}, "nothing is changed"),
         ("write flat 8 new", {"BAD_FILE": "1", "NO_NAMELESS": "1"}, "nothing is changed"),
@@ -892,14 +1016,18 @@ def bad_disk(tool: Tool) -> None:
 
 def pipes_as_images(tool: Tool) -> None:
     """A pipe is refused, and nobody waits for it; so is a file that holds more than it says."""
+    save("tried", TRIED)
     if os.path.exists("/proc/version"):
         expect_end(tool.run("write /proc/version 4 image"), 2, "length")
+        expect_end(tool.run(START.replace("misc misc", "misc /proc/version")), 2, "length")
     os.mkfifo("pipe")
     for words in ("judge pipe 12", "store pipe cut", "store pipe cut --dry-run", "list pipe", "map pipe",
                   "sections pipe", "write pipe 4096 image", "slots pipe show", "judge /dev/stdin 12",
                   "diff pipe p2", "diff p2 pipe", "join pipe p2 image", "join p2 pipe image", "rules pipe",
-                  "rules pipe 12 plain"):
+                  "rules pipe 12 plain", START.replace("lined", "pipe"), START.replace("misc misc", "misc pipe"),
+                  START.replace("misc misc", "misc .")):
         expect_end(tool.run(words, "</dev/null" if "stdin" in words else ""), 2)
+    expect(read("tried") == TRIED, "a record after what cannot be read")
 
 
 def has_nameless() -> bool:
@@ -943,6 +1071,18 @@ def folder_not_synced(tool: Tool) -> None:
     expect(read("tried")[TRIES] == 2, "the try")
     told = json.loads(tool.run("slots tried start --json", BAD_FOLDER="1").stdout)
     expect((told["answer"], told["slot"], told["status"]) == ("starts", "a", 3), f"the object {told}")
+    for words, record, answer, first in (
+        (START, "10003", STARTED, "tarpaulark: tried: is replaced"), (START_REFUSED, "10003", "", "refused 26 at 0"),
+        (START, "10000", "", "recovery: no slot may start, so there is no line"),
+    ):
+        save("tried", record_of(record))
+        done = tool.run(words, BAD_FOLDER="1")
+        expect_end(done, 3, "what this start takes is spent; only its folder may not be on the disk. Go by the answer")
+        expect(done.stdout == answer and done.stderr.startswith(first), f"{words} on {record}", done)
+        expect(read("tried") != record_of(record), f"{words} on {record}: the record")
+        save("tried", record_of(record))
+        told = json.loads(tool.run(f"{words} --json", BAD_FOLDER="1").stdout)
+        expect((told["result"], told["status"]) == ("failed", 3), f"the object {told}")
     expect_end(tool.run("write flat 8 image", BAD_FOLDER="1"), 3, "again")
     done = tool.run("join p2 p7 image", BAD_FOLDER="1")
     expect_end(done, 3, "again")
@@ -2008,9 +2148,11 @@ def left_alone(data: bytes) -> Iterator[None]:
 
 
 def expect_invalid(tool: Tool, advice: str) -> None:
-    """Every operation refuses the file, with the advice that is named, or none."""
-    for words in OPERATIONS:
-        done, told = tool.run(f"slots tried {words}"), tool.run(f"slots tried {words} --json")
+    """Every operation refuses the file, with the advice that is named, or none; and so does a start, whatever else is
+    wrong."""
+    starts = (START, START_REFUSED, "start tried --image b=missing --misc misc-short --line quiet")
+    for words in [f"slots tried {operation}" for operation in OPERATIONS] + list(starts):
+        done, told = tool.run(words), tool.run(f"{words} --json")
         expect(done.returncode == 1 and done.stdout == "" and done.stderr == INVALID + advice, words, done)
         found = json.loads(told.stdout)
         expect(found["number"] == 31 and found["status"] == 1 and told.stderr == "", words, told)
@@ -2110,11 +2252,386 @@ def old_of_any_bytes(_tool: Tool) -> None:
             expect_made(scripts[other], TRIED[:length], None)
 
 
+# Starting a slot.
+
+MISC = bytes(32)
+ASKING = b"boot-recovery".ljust(32, b"\0")
+MOST_LINE = 4096
+NO_LINE = "recovery: no slot may start, so there is no line"
+
+
+class Start(NamedTuple):
+    """What a start takes: the record, the images of slots in use by their letters, misc and the loader's line."""
+
+    record: bytes
+    images: Dict[str, bytes]
+    misc: bytes = MISC
+    line: bytes = b"quiet"
+
+    def run(self, tool: Tool, *more: bytes) -> "subprocess.CompletedProcess[bytes]":
+        """Runs it on files that hold these."""
+        save("tried", self.record)
+        save("misc", self.misc)
+        words = [b"start", b"tried", b"--misc", b"misc", b"--line", self.line, *more]
+        for letter, image in self.images.items():
+            save(f"image-{letter}", image)
+            words += [b"--image", f"{letter}=image-{letter}".encode("ascii")]
+        return tool.run_bytes(*words)
+
+    def outcome(self) -> starter.Outcome:
+        """What the reference answers and leaves, with space for the longest line."""
+        record = cases_slots.record_of(self.record)
+        assert record is not None
+        images = [self.images.get(letter, b"") for letter in "abcd"]
+        return starter.start(record, images, self.misc[:len(MISC)], self.line, bytes(MOST_LINE))
+
+
+def spent_words(slot: str, record: slots.Record) -> str:
+    """What is said of the record after a refusal of a slot that was picked."""
+    picked = record.slots["abcd".index(slot)]
+    if picked.successful:
+        return f"slot {slot} is successful, so no try is spent; the record stands as start left it"
+    tries = "1 try" if picked.tries == 1 else f"{picked.tries} tries"
+    return f"the try is spent: the record stands as start left it, with {tries} left for slot {slot}"
+
+
+def words_of(answer: starter.Answer, record: slots.Record, told: Dict[str, Any]) -> List[str]:
+    """The lines on standard error after a start; what a refusal means is taken from the object."""
+    if isinstance(answer, slots.Recovery):
+        return [NO_LINE]
+    if isinstance(answer, starter.Starts):
+        return [f"in the image of slot {'abcd'[answer.slot]}: retired section present"] * answer.located.retired
+    lines = [f"refused {answer.number} at 0", told["meaning"]]
+    if answer.number in (31, 51):
+        return lines
+    slot = "abcd"[record.current]
+    lines += [f"in the image of slot {slot}, image-{slot}"] * (answer.number != 52)
+    return lines + [spent_words(slot, record)]
+
+
+def object_of(outcome: starter.Outcome, told: Dict[str, Any]) -> Dict[str, Any]:
+    """The object for a start, but for its command, result and status."""
+    answer, record, space = outcome
+    if isinstance(answer, slots.Recovery):
+        return {"answer": "recovery", "recovery": NO_LINE}
+    if isinstance(answer, starter.Starts):
+        located, line = answer.located, space[:answer.length]
+        return {"answer": "starts", "slot": "abcd"[answer.slot], "line": line.decode("utf-8"), "length": len(line),
+                "version": located.version, "sections": [section._asdict() for section in located.sections],
+                "retired": located.retired}
+    found = {"number": answer.number, "place": 0, "meaning": told["meaning"]}
+    if answer.number in (31, 51):
+        return found
+    slot = "abcd"[record.current]
+    name = {} if answer.number == 52 else {"name": f"image-{slot}"}
+    return {**found, "slot": slot, **name, "spent": spent_words(slot, record)}
+
+
+def expect_start(tool: Tool, start: Start) -> starter.Outcome:
+    """All that is said of a start, in text and as an object, and the record that it leaves, are the reference's."""
+    outcome = start.outcome()
+    answer, record, space = outcome
+    after = bytes(cases_slots.record_values(record))
+    done = start.run(tool, b"--json")
+    told = json.loads(done.stdout.decode("utf-8"), object_pairs_hook=members)
+    status = 1 if isinstance(answer, boot.Refusal) else 0
+    ends = {"command": "start", "result": "refused" if status else "ok", "status": status}
+    expect(told == {**object_of(outcome, told), **ends} and not done.stderr, f"{start}: {outcome}", done)
+    expect(done.returncode == status and read("tried") == after, f"{start}: the record with --json", done)
+    done = start.run(tool)
+    line = space[:answer.length] + b"\n" if isinstance(answer, starter.Starts) else b""
+    said = "".join(words + "\n" for words in words_of(answer, record, told))
+    expect(done.returncode == status and done.stdout == line, f"{start}: {line!r} expected", done)
+    expect(done.stderr.decode("utf-8") == said and read("tried") == after, f"{start}: {said!r} expected", done)
+    return outcome
+
+
+# A version, its cmdline, its extra cmdline, and the image's line.
+LINES = (
+    (0, b"", b"", b""), (0, b"one", b"", b"one"), (0, b"one", b"two", b"onetwo"), (0, b"", b"two", b"two"),
+    (0, b"one\0no", b"two\0no", b"onetwo"), (0, b"\0no", b" two\0", b" two"), (1, b"o" * 512, b"", b"o" * 512),
+    (1, b"o" * 511, b"t", b"o" * 511 + b"t"), (1, b"o" * 512, b"\0no", b"o" * 512),
+    (2, b"o" * 512, b"t" * 1024, b"o" * 512 + b"t" * 1024), (2, b"o" * 511, b"t" * 1023, b"o" * 511 + b"t" * 1023),
+    (2, b"one two=\"three\"", b" \xc3\xb6", b"one two=\"three\" \xc3\xb6"),
+    (3, b"", b"", b""), (3, b"one\0no", b"", b"one"), (3, b"n" * 1536, b"", b"n" * 1536),
+    (4, b"n" * 1535 + b"\0", b"", b"n" * 1535), (4, b"n" * 1536, b"", b"n" * 1536), (4, b"\0n" * 768, b"", b""),
+)
+
+
+def lined(version: int, cmdline: bytes = b"", extra: bytes = b"") -> bytes:
+    """A boot image with all sections of its version and a line. A text that does not fill its field ends with a zero
+    byte; all that may stand in the header besides is an i."""
+    cmdline += b"\0" * (len(cmdline) < (512 if version < 3 else 1536))
+    extra += b"\0" * (version < 3 and len(extra) < 1024)
+    return cases_boot.base_image(version, cmdline=cmdline, extra_cmdline=extra, filler=ord("i"))
+
+
+def lines_of_images(tool: Tool) -> None:
+    """The line of an image of each version, in the line that a start prints; also where the image is its header
+    alone."""
+    for version, cmdline, extra, line in LINES:
+        bare = build.boot_image(version, build.HEADER_LENGTHS[version], cmdline=cmdline, extra_cmdline=extra)
+        for image, misc, loader, end in (
+            (lined(version, cmdline, extra), MISC, b"quiet", b" skip_initramfs"),
+            (lined(version, cmdline, extra), ASKING, b"one  two ", b""), (bare, ASKING, b"", b""),
+        ):
+            wanted = loader + b" " + line + b" androidboot.slot_suffix=_a" + end
+            outcome = expect_start(tool, Start(TRIED, {"a": image}, misc, loader))
+            expect(outcome.space == wanted.ljust(MOST_LINE, b"\0"), f"{wanted!r}, not {outcome.space!r}")
+
+
+def asked_for_recovery(tool: Tool) -> None:
+    """Recovery is asked for by its word and a zero byte at the beginning of misc, whatever follows, and by nothing
+    else."""
+    word = b"boot-recovery"
+    for misc, filler, asks in (
+        (word, b"\0", True), (word + b"\0", b"x", True), (word + b"\0", b"\xff", True), (word, b"x", False),
+        (word, b"\n", False), (word + b" ", b"\0", False), (word[:-1], b"\0", False), (word[1:], b"\0", False),
+        (b" " + word, b"\0", False), (b"\0" + word, b"\0", False), (word.upper(), b"\0", False),
+        (b"boot_recovery", b"\0", False), (b"boot-bootloader", b"\0", False), (b"x" * 16 + word, b"\0", False),
+    ):
+        outcome = expect_start(tool, Start(TRIED, {"a": lined(3)}, misc.ljust(32, filler)))
+        expect((b"skip_initramfs" in outcome.space) != asks, f"{misc!r} and {filler!r}")
+
+
+def lengths_of_misc(tool: Tool) -> None:
+    """Of misc 32 bytes are read, and more do not matter; fewer are refused, and the record is not replaced."""
+    for length in (0, 1, 13, 14, 31):
+        for misc in (bytes(length), ASKING[:length]):
+            start = Start(TRIED, {"a": lined(3)}, misc)
+            expect(expect_start(tool, start).answer == boot.Refusal(51), f"{length} bytes of misc")
+            before = os.stat("tried")
+            done = tool.run("start tried --image a=image-a --misc misc --line quiet")
+            expect(done.stderr == "refused 51 at 0\nmisc under 32 bytes\n", f"{length} bytes of misc", done)
+            expect(os.stat("tried").st_ino == before.st_ino and read("tried") == TRIED, "a record that is replaced")
+    for length in (32, 33, 2048, 70000):
+        for filler in (b"\0", b"x"):
+            outcome = expect_start(tool, Start(TRIED, {"a": lined(3)}, b"boot-recovery\0".ljust(length, filler)))
+            expect(b"skip_initramfs" not in outcome.space, f"{length} bytes of misc")
+
+
+def longest_lines(tool: Tool) -> None:
+    """A line of 4,096 bytes is printed, and one of a byte more is refused after the slot was picked."""
+    suffix, skips = len(" androidboot.slot_suffix=_a"), len(" skip_initramfs")
+    for version, cmdline, extra, line in LINES:
+        for misc, end in ((MISC, suffix + skips), (ASKING, suffix)):
+            loader = b"l" * (MOST_LINE - 1 - len(line) - end)
+            outcome = expect_start(tool, Start(TRIED, {"a": lined(version, cmdline, extra)}, misc, loader))
+            expect(isinstance(outcome.answer, starter.Starts) and outcome.answer.length == MOST_LINE, f"{outcome}")
+            outcome = expect_start(tool, Start(TRIED, {"a": lined(version, cmdline, extra)}, misc, loader + b"l"))
+            expect(outcome.answer == boot.Refusal(52) and read("tried") == record_of("10002"), f"{outcome}")
+    expect_start(tool, Start(TRIED, {"a": lined(3)}, MISC, b"l" * 100000))
+    done = tool.run("start tried --image a=image-a --misc misc --line " + "l" * 4096)
+    expect(done.stderr.startswith("refused 52 at 0\nthe line needs more than 4,096 bytes\n"), "what 52 means", done)
+
+
+# A record, the letter of the slot that starts or nothing for Recovery, and the record after it.
+STARTS: Tuple[Tuple[bytes, str, bytes], ...] = (
+    (record_of("10003"), "a", record_of("10002")),
+    (record_of("10001 10003"), "a", record_of("10000 10003")),
+    (record_of("10100 10003"), "a", record_of("10100 10003")),
+    (record_of("10000 10100"), "b", record_of("11000 10100", "b")),
+    (record_of("10000 10003 10102"), "c", record_of("11000 10003 10102", "c")),
+    (record_of("10112 10003 10013 10107"), "d", record_of("11012 10003 10013 10107", "d")),
+    (record_of("10003 10003 10003 10007", "d"), "d", record_of("10003 10003 10003 10006", "d")),
+    (record_of("00117 10003 00003 00009", "b"), "b", record_of("00117 10002 00003 00009", "b")),
+    (record_of("10000"), "", record_of("11000")),
+    (record_of("11000"), "", record_of("11000")),
+    (record_of("10000 10003 00100"), "", record_of("11000 10003 00100")),
+    (record_of("10112 10112"), "", record_of("11012 10112")),
+)
+
+
+def used_in(record: bytes) -> str:
+    """The letters of the slots in use."""
+    return "".join(letter for at, letter in zip(range(0, 20, 5), "abcd") if record[at])
+
+
+def slots_that_start(tool: Tool) -> None:
+    """The slot that starts has its own image, its letter in the line, and the record as `slots start` leaves it; where
+    none may start there is no line, whatever the images and the loader's line are."""
+    for before, letter, after in STARTS:
+        for misc in (MISC, ASKING):
+            images = {used: lined(version, b"root=" + used.encode("ascii"))
+                      for version, used in enumerate(used_in(before))}
+            outcome = expect_start(tool, Start(before, images, misc))
+            expect(read("tried") == after, f"the record after {before!r}")
+            wanted = f"quiet root={letter} androidboot.slot_suffix=_{letter}".encode("ascii")
+            expect(outcome.space.startswith(wanted) if letter else not any(outcome.space), f"{wanted!r}")
+            save("tried", before)
+            done = tool.run("slots tried start")
+            expect(done.stdout == (f"starts {letter}\n" if letter else "recovery\n"), f"{before!r}", done)
+            expect(read("tried") == after, f"the record after a plain start of {before!r}")
+        outcome = expect_start(tool, Start(before, dict.fromkeys(used_in(before), b"none"), MISC, b"l" * 5000))
+        expect(outcome.answer == (boot.Refusal(21) if letter else slots.Recovery()), f"{before!r}: {outcome.answer}")
+        expect(read("tried") == after, f"the record after a refusal of {before!r}")
+
+
+def refused_starts(tool: Tool) -> None:
+    """Each refusal of an image, of slots with tries left, with none left and successful ones; the images of other slots
+    do not matter, and the refusal comes before that of the line."""
+    good, numbers = lined(1), []
+    for image in cases_launch.refused_images(0) + [b""]:
+        for record, letter in ((record_of("10003 10003"), "a"), (record_of("10001 10003", "b"), "b"),
+                               (record_of("10003 10002", "b"), "b"), (record_of("10000 10100"), "b")):
+            start = Start(record, {"a": good, "b": good, letter: image}, MISC, b"l" * 4096)
+            outcome = expect_start(tool, start)
+            assert isinstance(outcome.answer, boot.Refusal)
+            numbers.append(outcome.answer.number)
+            other = {"a": "b", "b": "a"}[letter]
+            start = Start(record, {letter: good, other: image})
+            expect(isinstance(expect_start(tool, start).answer, starter.Starts), f"{start}: an image that is not read")
+    expect(numbers[::4] == [21, 22, 23, 21, 24, 25, 27, 26, 26, 21], f"{numbers}")
+    save("tried", record_of("10002"))
+    save("image-a", FILES["archived-cut"])
+    done = tool.run("start tried --image a=./image-a --misc misc --line quiet")
+    said = ("refused 26 at 0\na section that is not empty, a retired one too, ends past the input\n"
+            "in the image of slot a, ./image-a\n"
+            "the try is spent: the record stands as start left it, with 1 try left for slot a\n")
+    expect(done.stderr == said, f"{said!r} expected", done)
+
+
+def random_start(rng: random.Random) -> Start:
+    """A random record, a random image for each slot in use, misc of several kinds, and a line, short or nearly too
+    long."""
+    record = bytes(cases_slots.record_values(cases_slots.random_record(rng)))
+    images: Dict[str, bytes] = {}
+    for letter in used_in(record):
+        text = bytes(rng.choice(b"ab =\0") for _ in range(rng.randrange(40)))
+        images[letter] = cases_boot.random_image(rng, cmdline=text)
+    misc = rng.choice((MISC, ASKING, ASKING + b"more", ASKING[:31], rng.randbytes(32)))
+    return Start(record, images, misc, bytes(rng.choice(b"kl =") for _ in range(rng.choice((0, 9, 4000, 4060)))))
+
+
+def started_as_the_reference(tool: Tool) -> None:
+    """Random starts are answered, refused and written down as by the reference."""
+    rng = random.Random(18)
+    kinds = {type(expect_start(tool, random_start(rng)).answer) for _ in range(60)}
+    expect(kinds == {starter.Starts, slots.Recovery, boot.Refusal}, f"kinds of answers: {kinds}")
+
+
+def images_not_in_use(tool: Tool) -> None:
+    """The image of a slot that is not in use is not looked at, and each slot in use must have one, or nothing is
+    changed; which is missing is said."""
+    os.mkfifo("pipe")
+    for more in ("--image b=missing", "--image c=pipe --image d=.", "--image b=tried", "--image d=p2"):
+        save("tried", TRIED)
+        done = tool.run(f"{START} {more}")
+        expect(done.stdout == STARTED and not done.stderr and read("tried") == record_of("10002"), more, done)
+    places = "10003 00003 10003 10003"
+    for given, missing in (("", "a"), ("a", "c"), ("ab", "c"), ("acb", "d"), ("dc", "a"), ("bda", "c")):
+        words = "start tried --misc misc --line quiet" + "".join(f" --image {letter}=lined" for letter in given)
+        with left_alone(record_of(places)):
+            done, told = tool.run(words), json.loads(tool.run(words + " --json").stdout)
+        said = f"slot {missing} is in use and has no image; add --image {missing}=FILE"
+        expect(done.stderr == f"tarpaulark: {said}\nsee tarpaulark --help\n" and done.returncode == 2, words, done)
+        expect((told["words"], told["status"]) == (said, 2), f"{words}: {told}")
+
+
+def misused_starts(tool: Tool) -> None:
+    """What is wrong with the words of a start is said, as an object too, and nothing is changed."""
+    both, rest = "start tried --image a=lined --image b=lined", "--misc misc --line quiet"
+    takes = "start takes --misc with the file of the misc partition, and --line with the loader's line"
+    image = "--image takes a slot, a letter from a to d, and the name of its boot image, as in a=FILE"
+    line = "--line takes a text, which may be empty, and not an option"
+    for words, said in (
+        (f"{both} --misc misc", takes), (f"{both} --line quiet", takes), (both, takes),
+        (f"{both} {rest} --image a=other", "--image names slot a twice; name each slot once"),
+        (f"{both} {rest} --image c=one --image c=one", "--image names slot c twice; name each slot once"),
+        (f"{both} {rest} --image e=lined", image), (f"{both} {rest} --image A=lined", image),
+        (f"{both} {rest} --image lined", image), (f"{both} {rest} --image c:lined", image),
+        (f"{both} {rest} --image c=", image), (f"{both} {rest} --image ''", image), (f"{both} {rest} --image", image),
+        (f"{both} {rest} --misc misc", "--misc is given twice; name one file"),
+        (f"{both} {rest} --line ''", "--line is given twice; give one text"),
+        (f"{both} --line quiet --misc", "--misc takes the name of a file; put ./ before one that begins with -"),
+        (f"{both} --misc --line quiet", "--misc takes the name of a file; put ./ before one that begins with -"),
+        (f"{both} --misc misc --line", line), (f"{both} --line --misc misc", line), (f"{both} --line -h", line),
+        (f"{both} --misc misc --line --", line),
+        (START.replace("a=lined", "a=tried"), "RECORD and an image are one file: name two"),
+        (START.replace("misc misc", "misc tried"), "RECORD and misc are one file: name two"),
+    ):
+        with left_alone(TRIED):
+            done, told = tool.run(words), json.loads(tool.run("--json " + words).stdout)
+        expect(done.stderr == f"tarpaulark: {said}\nsee tarpaulark --help\n" and not done.stdout, words, done)
+        expect(done.returncode == 2 and (told["words"], told["status"]) == (said, 2), f"{words}: {told}")
+
+
+def lines_of_any_bytes(tool: Tool) -> None:
+    """Text has the bytes of the loader's line and of the image's as they are; in the object what is no text shows as a
+    sign for that, and nothing steers the terminal. The line's length counts its bytes."""
+    cmdlines = b"\xff\x01\n\"\\", b"\xc3", b"=\xc2\x9b"
+    for loader, cmdline in itertools.product((*ODD_NAMES, b"", b"-x", b"'a b'"), cmdlines):
+        start = Start(TRIED, {"a": lined(2, cmdline, b"\x9f\xe2\x82")}, ASKING, loader)
+        done = start.run(tool)
+        line = loader + b" " + cmdline + b"\x9f\xe2\x82 androidboot.slot_suffix=_a"
+        expect(done.stdout == line + b"\n" and done.returncode == 0, f"{line!r} expected", done)
+        shown = start.run(tool, b"--json").stdout.decode("utf-8")
+        expect(re.findall("[\0-\x1f\x7f-\x9f]", shown) == ["\n"], f"{shown!r} of {line!r}")
+        told = json.loads(shown)
+        expect(told["length"] == len(line) and told["line"] == as_text(line), f"{told} of {line!r}")
+
+
+def as_text(line: bytes) -> str:
+    """Bytes as text, with a sign for each that is part of none."""
+    text, at = "", 0
+    while at < len(line):
+        for length in range(1, 5):
+            with contextlib.suppress(UnicodeDecodeError):
+                sign = line[at:at + length].decode("utf-8")
+                break
+        else:
+            sign, length = "\ufffd", 1
+        text, at = text + ("\ufffd" * 3 if sign in "\ufffe\uffff" else sign), at + length
+    return text
+
+
+def names_in_starts(tool: Tool) -> None:
+    """A refusal that names an image is whole whatever it is called, and steers no terminal."""
+    for name in ODD_NAMES:
+        with open(name, "wb") as file:
+            file.write(FILES["archived-cut"])
+        save("tried", TRIED)
+        words = (b"start", b"tried", b"--image", b"a=" + name, b"--misc", b"misc", b"--line", b"quiet")
+        done = tool.run_bytes(*words)
+        controls = re.findall("[\0-\x1f\x7f-\x9f]", done.stderr.decode("utf-8"))
+        expect(done.returncode == 1 and controls == ["\n"] * 4, f"a refusal of {name!r}", done)
+        told = json.loads(tool.run_bytes(*words, b"--json").stdout.decode("utf-8"))
+        expect((told["slot"], told["name"], told["status"]) == ("a", as_text(name), 1), f"{name!r}: {told}")
+        expect(read("tried") == record_of("10001"), f"the record after {name!r}")
+
+
+def started_from_devices(tool: Tool) -> None:
+    """Images and misc may be block devices; each is held so that others may read it."""
+    save("image", FILES["lined"].ljust(12800, b"\0"))
+    save("disk", b"boot-recovery\0".ljust(4096, b"x"))
+    with loop_device("image") as image, loop_device("disk") as misc:
+        save("tried", TRIED)
+        words = f"start tried --image a={image} --misc {misc} --line quiet"
+        done = tool.run(words)
+        expect(done.stdout == f"quiet root=/dev/sda4 ro {ENDS.format('a')}\n", "a start from devices", done)
+        with locked(misc, fcntl.LOCK_EX):
+            expect_end(tool.run(words), 3, "is busy")
+        expect(read("tried") == record_of("10002"), "the record")
+
+
+def example_in_readme(tool: Tool) -> None:
+    """What README.md shows of a start is what the tool prints."""
+    readme = read(os.path.join(ROOT, "README.md")).decode("utf-8")
+    shown = re.findall(r"^    \$ tarpaulark (.*)\n((?:    (?!\$).*\n)+)", readme, re.MULTILINE)
+    expect([words.split()[0] for words, _ in shown] == ["slots", "start"], f"{shown}")
+    for name in "ab":
+        save(f"boot_{name}.img", lined(3, b"printk.devkmsg=on"))
+    save("misc.img", MISC)
+    for words, lines in shown:
+        done = tool.run(words)
+        expect(done.stdout == re.sub("(?m)^    ", "", lines) and not done.stderr, words, done)
+
+
 # What people look for.
 
 def help_and_version(tool: Tool) -> None:
     """Help and version go to standard output."""
-    for words in ("--help", "-h", "store --help", "slots -h", "rules --help"):
+    for words in ("--help", "-h", "store --help", "slots -h", "rules --help", "start --help"):
         done = tool.run(words)
         expect(done.returncode == 0 and "Exit status: 0 done" in done.stdout and not done.stderr, words, done)
     header = read(os.path.join(ROOT, "include", "tarpaulark.h")).decode("ascii")
@@ -2140,7 +2657,7 @@ def same_words(tool: Tool) -> None:
     told = tool.run("--help").stdout
     usages = re.findall(r"^ *(?:usage:)? tarpaulark (.*)$", told, re.MULTILINE)
     statuses = re.findall(r"^(?:Exit status:)? +([0-4]) (.*)$", told, re.MULTILINE)
-    expect(len(usages) == 16 and len(statuses) == 5, f"the help {told}")
+    expect(len(usages) == 17 and len(statuses) == 5, f"the help {told}")
     man = text_of_man(read(os.path.join(ROOT, "host", "tarpaulark.1")).decode("ascii"))
     readme = read(os.path.join(ROOT, "README.md")).decode("utf-8")
     for usage in usages:
@@ -2152,7 +2669,8 @@ def same_words(tool: Tool) -> None:
     for number, words in statuses:
         expect(f"{number} {words}.".replace("`", "").lower() in man.lower(), f"the man page lacks {words}")
         expect(f"| {number} | {words} |" in readme, f"README.md lacks {words}")
-    for option in ("--json", "-h", "--help", "--version", "--limit", "--length", "--dry-run", "--map", "--svg", "--"):
+    for option in ("--json", "-h", "--help", "--version", "--limit", "--length", "--dry-run", "--map", "--svg",
+                   "--image", "--misc", "--line", "--"):
         for name, text in (("the help", told), ("the man page", man), ("README.md", readme.replace("`", " "))):
             expect(re.search(rf"(?<![\w-]){option}(?![\w-])", text) is not None, f"{name} lacks {option}")
 
@@ -2171,6 +2689,10 @@ def not_printed(tool: Tool) -> None:
         expect_end(tool.run(words, ">/dev/full"), 4)
     expect_end(tool.run("join last next image", ">/dev/full"), 4, "what was asked is done")
     expect(read("image") == JOINED, "what was asked of join")
+    for more in ("", " --json"):
+        save("tried", TRIED)
+        expect_end(tool.run(START + more, ">/dev/full"), 4, "what was asked is done")
+        expect(read("tried") == record_of("10002"), f"the record of a start that is not printed{more}")
     process = tool.begin("list kinds")
     assert process.stdout is not None
     process.stdout.close()
@@ -2197,6 +2719,7 @@ def members(pairs: List[Tuple[str, Any]]) -> Dict[str, Any]:
 def same_in_json(tool: Tool) -> None:
     """The object has each number that the text has, and the status."""
     save("tried", TRIED)
+    start = START.replace("tried", "spent")
     for words in ("judge p2 12", "judge p6 12", "judge p7 12", "judge p8 12", "store p2 cut", "store p2 cut --limit 1",
                   "store p7 cut", "store kinds long --dry-run", "store p6 cut", "list kinds", "list p6", "list p7",
                   "list strange", "map kinds", "map p6", "diff p2 p7", "diff last next", "diff last next --map",
@@ -2207,7 +2730,10 @@ def same_in_json(tool: Tool) -> None:
                   "rules archived-cut", "rules boot 12 plain", "rules archived 10 plain", "rules boot 12 generic",
                   "rules boot4-os 13 generic", "rules boot 14 plain",
                   "slots tried show", "slots odd show", "slots old17 show", "slots old21 show", "slots tried status",
-                  "slots miscounted status", "slots tried corrupted a", "slots tried fresh 5", "slots tried fresh 3"):
+                  "slots miscounted status", "slots tried corrupted a", "slots tried fresh 5", "slots tried fresh 3",
+                  start, start.replace("lined", "archived-cut"), start.replace("misc misc", "misc misc-short"),
+                  start + "x" * 4096, start.replace("spent", "odd"),
+                  start.replace("spent", "given-up --image b=p2")):
         text, told = tool.run(words), tool.run(words + " --json")
         found = json.loads(told.stdout, object_pairs_hook=members)
         expect(told.returncode == text.returncode == found["status"] and told.stderr == "", words, told)
@@ -2220,7 +2746,9 @@ def same_in_json(tool: Tool) -> None:
         missing = set(said) - set(numbers_in(found))
         expect(not missing, f"{words}: the object lacks {missing}", told)
     for words, status in (("judge missing 1 --json", 3), ("judge --json", 2), ("--json", 2), ("x --json", 2),
-                          ("rules boot 12 --json", 2), ("rules boot x plain --json", 2), ("rules missing --json", 3)):
+                          ("rules boot 12 --json", 2), ("rules boot x plain --json", 2), ("rules missing --json", 3),
+                          ("start tried --json", 2), (f"{BOTH} start tried --misc misc --line --json", 2),
+                          (f"start missing {BOTH} --misc misc --line quiet --json", 3)):
         told = tool.run(words)
         expect(json.loads(told.stdout)["status"] == told.returncode == status and not told.stderr, words, told)
     expect(json.loads(tool.run("slots tried start --json").stdout)["slot"] == "a", "a start")
@@ -2351,8 +2879,8 @@ def mixed_cells(tool: Tool) -> None:
 
 CHECKS: Tuple[Callable[[Tool], None], ...] = (
     closed_descriptors, printed_into_files, kinds_of_targets, block_devices, links, locks, locks_to_the_end,
-    starts_at_once, replaced_at_once, changed_image, lost_partitions, bad_disk, pipes_as_images, interrupted_writes,
-    folder_not_synced,
+    starts_at_once, replaced_at_once, changed_image, changed_at_starts, lost_partitions, bad_disk, pipes_as_images,
+    interrupted_writes, folder_not_synced,
     none_stated, none_stated_in_json, not_checked, true_sum_of_0, unknown_told, unknown_is_kept,
     sent_in_pieces, sent_from_files, wrong_lengths, kinds_of_input, killed_on_the_way, faults_on_the_way,
     shown_from_pipes, shown_from_files, told_on_terminals,
@@ -2363,6 +2891,9 @@ CHECKS: Tuple[Callable[[Tool], None], ...] = (
     retired_sections, rules_as_the_reference, asked_as_the_reference, same_table,
     slot_turns, flags_shown, states_in_words, counts_in_words, wrong_counts, old_records, other_lengths, old_made_new,
     old_of_any_bytes,
+    lines_of_images, asked_for_recovery, lengths_of_misc, longest_lines, slots_that_start, refused_starts,
+    started_as_the_reference, images_not_in_use, misused_starts, lines_of_any_bytes, names_in_starts,
+    started_from_devices, example_in_readme,
     help_and_version, same_words, not_printed, same_in_json, as_the_reference, names_of_any_bytes,
     two_names_of_any_bytes, long_images, mixed_cells,
 )

@@ -28,7 +28,10 @@ grep -q "tarpaulark $version" "$root/share/man/man1/tarpaulark.1" || die "the ma
 # of version 2 has its sections where the header says, and last whether a retired one is present, with and without one;
 # nothing past the answer is touched, and an input that is too short is refused. Of the launch releases only 10 takes it,
 # with the plain kernel, and answers the same; of version 4 the last one takes it with the generic kernel where the os
-# version is 0.
+# version is 0. Of a fresh record of two slots a is started with the first of these images: misc that is too short leaves
+# the record; the line, its length and the sections stand where the header says, nothing past the line and the answer is
+# touched, and slots that are not in use have no image; with a byte less of space, and of the image, the start is refused
+# and a try is spent; when none is left the answer is Recovery.
 cat >"$folder/use.c" <<'END_C'
 #include <tarpaulark.h>
 
@@ -165,10 +168,70 @@ static int use_os_version(void)
         || answer[TARPAULARK_VERSION_AT] != 4;
 }
 
+/* Misc of 32 bytes does not ask for recovery. */
+static uint32_t start(uint8_t *record, const uint8_t *image, size_t length, size_t misc_len, uint8_t *space,
+                      size_t space_len, uint64_t *answer)
+{
+    static const uint8_t misc[TARPAULARK_MISC] = "boot-recovery?", line[] = "quiet";
+
+    return tarpaulark_start(record, image, length, image, length, 0, 0, 0, 0, misc, misc_len, line, sizeof line - 1,
+                            space, space_len, answer);
+}
+
+static int answers(const uint64_t *answer, uint64_t kind)
+{
+    size_t i;
+
+    for (i = 1; i < TARPAULARK_START_ANSWER && answer[i] == 0; i++)
+        continue;
+    return answer[TARPAULARK_START_KIND] == kind && i == TARPAULARK_START_ANSWER;
+}
+
+static int writes_line(uint8_t *record, const uint8_t *image, size_t length, uint8_t *space, uint64_t *answer)
+{
+    static const uint8_t line[] = "quiet on=1 androidboot.slot_suffix=_a skip_initramfs";
+    size_t i;
+
+    answer[TARPAULARK_START_ANSWER] = space[sizeof line - 1] = 77;
+    if (start(record, image, length, TARPAULARK_MISC, space, TARPAULARK_MOST_LINE, answer) != 0
+        || answer[TARPAULARK_START_KIND] != TARPAULARK_STARTS || answer[TARPAULARK_START_SLOT] != 0
+        || answer[TARPAULARK_START_LENGTH] != sizeof line - 1
+        || !has_sections(answer + TARPAULARK_START_SECTIONS, 1, 8192))
+        return 0;
+    for (i = 0; i < sizeof line - 1 && space[i] == line[i]; i++)
+        continue;
+    return i == sizeof line - 1 && space[i] == 77 && answer[TARPAULARK_START_ANSWER] == 77;
+}
+
+static int use_start(const uint8_t *image, size_t length)
+{
+    static uint8_t record[TARPAULARK_RECORD], space[TARPAULARK_MOST_LINE];
+    const uint8_t *tries = record + TARPAULARK_SLOT_TRIES;
+    uint64_t answer[TARPAULARK_START_ANSWER + 1];
+
+    if (start(record, image, length, TARPAULARK_MISC, space, sizeof space, answer) != TARPAULARK_BAD_RECORD
+        || !answers(answer, TARPAULARK_REFUSED) || tarpaulark_slots_fresh(2, record, answer) != 0
+        || start(record, image, length, TARPAULARK_MISC - 1, space, sizeof space, answer) != TARPAULARK_BAD_MISC
+        || !answers(answer, TARPAULARK_REFUSED) || *tries != 3 || space[0] != 0)
+        return 1;
+    if (!writes_line(record, image, length, space, answer) || *tries != 2)
+        return 1;
+    space[0] = 0;
+    if (start(record, image, length, TARPAULARK_MISC, space, answer[TARPAULARK_START_LENGTH] - 1, answer)
+            != TARPAULARK_BAD_LINE
+        || !answers(answer, TARPAULARK_REFUSED) || *tries != 1
+        || start(record, image, length - 1, TARPAULARK_MISC, space, sizeof space, answer) != TARPAULARK_BAD_BOOT_END
+        || !answers(answer, TARPAULARK_REFUSED) || *tries != 0)
+        return 1;
+    return start(record, image, length, TARPAULARK_MISC, space, sizeof space, answer) != 0
+        || !answers(answer, TARPAULARK_RECOVERY) || record[TARPAULARK_SLOT_UNBOOTABLE] != 1 || space[0] != 0;
+}
+
 static int use_boot(void)
 {
     static const uint16_t bytes[][2] = {
         {9, 8}, {16, 1}, {24, 1}, {37, 8}, {40, 2}, {1644, 1660 % 256}, {1645, 1660 / 256}, {1648, 1},
+        {64, 'o'}, {65, 'n'}, {608, '='}, {609, '1'},
     };
     static uint8_t image[8193] = "ANDROID!";
     uint64_t answer[TARPAULARK_LOCATE_ANSWER + 1];
@@ -179,7 +242,8 @@ static int use_boot(void)
     answer[TARPAULARK_LOCATE_ANSWER] = 77;
     if (tarpaulark_locate(image, sizeof image, answer) != 0 || !has_sections(answer, 1, 8192)
         || tarpaulark_locate(image, sizeof image - 1, answer) != TARPAULARK_BAD_BOOT_END
-        || answer[TARPAULARK_RETIRED_AT] != 0 || use_releases(image, sizeof image, answer) || use_os_version())
+        || answer[TARPAULARK_RETIRED_AT] != 0 || use_releases(image, sizeof image, answer) || use_os_version()
+        || use_start(image, sizeof image))
         return 1;
     image[24] = 0;
     return tarpaulark_locate(image, sizeof image, answer) != 0 || !has_sections(answer, 0, 6144)

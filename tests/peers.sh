@@ -189,12 +189,13 @@ make_sections() {
     : >signature
 }
 
-# Makes the file boot of a header version and a page size from those sections.
+# Makes the file boot of a header version and a page size from those sections, with a command line where one follows.
 make_boot() {
     local words=(--header_version "$1" --pagesize "$2" --kernel kernel --ramdisk ramdisk -o boot)
     [ "$1" -ge 3 ] || words+=(--second second)
     [ "$1" != 1 ] && [ "$1" != 2 ] || [ ! -s recovery ] || words+=(--recovery_dtbo recovery)
     [ "$1" != 2 ] || words+=(--dtb dtb)
+    [ $# -lt 3 ] || words+=(--cmdline "$3")
     mkbootimg "${words[@]}"
 }
 
@@ -237,23 +238,55 @@ same_takers() {
     [ "$(grep -Ex '[0-9]+ (plain|generic)' said | paste -sd ,)" = "${takers[$1]}" ]
 }
 
+# Makes the file boot, or says that mkbootimg makes none.
+made_boot() {
+    local what=$1
+    shift
+    make_boot "$@" >log 2>&1 && return
+    echo "disagrees: $what: mkbootimg makes none"
+    failed=1
+    return 1
+}
+
+# Whether boot states the header size that its version has, or none.
+is_sized() {
+    local size
+    size=$(stated_size "$1")
+    [ -z "$size" ] || [ "$size" = "${header_lengths[$1]}" ]
+}
+
 # A boot image that states another header size than its version has must be refused with 24.
 try_boot() {
-    local what="mkbootimg, version $1, page $2, sizes $3" sizes size
+    local what="mkbootimg, version $1, page $2, sizes $3" sizes
     read -ra sizes <<<"$3"
     make_sections "${sizes[@]}"
-    if ! make_boot "$1" "$2" >log 2>&1; then
-        echo "disagrees: $what: mkbootimg makes none"
-        failed=1
-        return
-    fi
-    size=$(stated_size "$1")
-    if [ -z "$size" ] || [ "$size" = "${header_lengths[$1]}" ]; then
+    made_boot "$what" "$1" "$2" || return 0
+    if is_sized "$1"; then
         expect agrees "$what" same_sections "$1"
         expect agrees "releases, $what" same_takers "$1"
     else
         expect 24 "$what" says "refused 24 at 0" sections boot
     fi
+}
+
+# Started as the image of the one slot of a fresh record, boot has the very command line that it was made with.
+same_line() {
+    rm -f record
+    "$tool" slots record fresh 1 && says "quiet $1 androidboot.slot_suffix=_a skip_initramfs" \
+        start record --image a=boot --misc misc --line quiet
+}
+
+# Command lines of which some end at the end of the cmdline or in the extra cmdline, which versions 0 to 2 have.
+try_cmdlines() {
+    local length line what
+    line=$(seq -s , 500)
+    make_sections 1 1 1 0 1
+    for length in 0 1 20 510 511 512 513 700 1500; do
+        what="command line of $length bytes, mkbootimg, version $1"
+        made_boot "$what" "$1" 2048 "${line:0:length}" || continue
+        is_sized "$1" && expect agrees "$what" same_line "${line:0:length}"
+    done
+    return 0
 }
 
 # Every header version that this mkbootimg makes, at every page size, sections empty and not.
@@ -285,6 +318,7 @@ try_mkbootimg() {
             fi
         fi
         try_version "$version" "$recovery"
+        try_cmdlines "$version"
     done
 }
 
@@ -322,6 +356,7 @@ if [ $has_simg2img = 1 ]; then
 fi
 
 if installed mkbootimg mkbootimg; then
+    head -c 32 /dev/zero >misc
     try_mkbootimg
 fi
 

@@ -24,6 +24,9 @@
 #define BLOCKS 10
 #define ROOM 16384
 
+/* Bytes of a loader's line that is not too long. */
+#define LINE 40
+
 /* What is lent to the calls, and what the last one returned. */
 static uint8_t flat[BLOCKS * BLOCK], image[ROOM], partition[BLOCKS * BLOCK], pass[TARPAULARK_PASS];
 static uint8_t other[ROOM], record[TARPAULARK_RECORD];
@@ -34,7 +37,9 @@ static bool other_first;
 static size_t image_len, told_len, flat_len = sizeof flat, partition_len = sizeof partition, room = ROOM;
 static size_t piece_at, piece_len, chunk_at;
 static uint32_t block = BLOCK, slot, release, kernel, number;
-static uint64_t answer[TARPAULARK_LOCATE_ANSWER], met;
+static uint8_t misc[TARPAULARK_MISC], line[TARPAULARK_MOST_LINE], space[TARPAULARK_MOST_LINE];
+static size_t misc_len = sizeof misc, line_len = LINE, space_len = sizeof space;
+static uint64_t answer[TARPAULARK_START_ANSWER], met;
 
 static void got(uint32_t returned)
 {
@@ -167,6 +172,13 @@ static void slots_confirm(void)
     got(tarpaulark_slots_confirm(record, answer));
 }
 
+/* The image is that of every slot. */
+static void start(void)
+{
+    got(tarpaulark_start(record, image, image_len, image, image_len, image, image_len, image, image_len, misc, misc_len,
+                         line, line_len, space, space_len, answer));
+}
+
 /* Each call, and the deepest it went. The passes keep a state as well. */
 static struct function {
     const char *name;
@@ -197,6 +209,7 @@ static struct function {
     {"slots_modified", slots_modified, false, 0},
     {"slots_corrupted", slots_corrupted, false, 0},
     {"slots_confirm", slots_confirm, false, 0},
+    {"start", start, false, 0},
 };
 #define FUNCTIONS (sizeof functions / sizeof functions[0])
 
@@ -541,10 +554,112 @@ static void try_slots(void)
         }
 }
 
+/* The boot image with cmdlines that fill their fields. */
+static void make_lined(uint32_t version)
+{
+    make_boot(version);
+    if (version > 2) {
+        memset(image + 44, 'n', 1536);
+        return;
+    }
+    memset(image + 64, 'o', 512);
+    memset(image + 608, 'x', 1024);
+}
+
+/* Starts slot a of a fresh record; it starts, or is refused with a number. */
+static void start_fresh(uint32_t refusal, const char *what)
+{
+    slot = 2;
+    measure(slots_fresh);
+    measure(start);
+    expect(number == refusal, what);
+    expect(answer[TARPAULARK_START_KIND] == (refusal == 0 ? TARPAULARK_STARTS : TARPAULARK_REFUSED), what);
+}
+
+/* Misc of every length, that does not ask for recovery and then does; space for that line, and a byte less. */
+static void try_misc(bool has_retired)
+{
+    static const char asking[] = "boot-recovery";
+    size_t length;
+
+    for (misc_len = 0; misc_len < sizeof misc; misc_len++)
+        start_fresh(TARPAULARK_BAD_MISC, "misc that is too short is taken");
+    memset(misc, 0, sizeof misc);
+    start_fresh(0, "a slot does not start");
+    length = answer[TARPAULARK_START_LENGTH];
+    expect(answer[TARPAULARK_START_SECTIONS + TARPAULARK_RETIRED_AT] == has_retired,
+           "a retired section is told of wrongly at a start");
+    memcpy(misc, asking, sizeof asking);
+    start_fresh(0, "a slot does not start where recovery is asked for");
+    expect(answer[TARPAULARK_START_LENGTH] < length, "that recovery is asked for does not show");
+    space_len = answer[TARPAULARK_START_LENGTH];
+    start_fresh(0, "a slot does not start with just enough space");
+    space_len--;
+    start_fresh(TARPAULARK_BAD_LINE, "a line without room is written");
+    space_len = sizeof space;
+}
+
+/* The longest line, and loader's lines that are longer by one byte and by many. */
+static void try_longest(void)
+{
+    line_len = 0;
+    start_fresh(0, "a slot does not start with an empty line");
+    line_len = sizeof space - answer[TARPAULARK_START_LENGTH];
+    start_fresh(0, "the longest line is refused");
+    expect(answer[TARPAULARK_START_LENGTH] == TARPAULARK_MOST_LINE, "the longest line has another length");
+    line_len++;
+    start_fresh(TARPAULARK_BAD_LINE, "a line that is too long is written");
+    line_len = sizeof line;
+    start_fresh(TARPAULARK_BAD_LINE, "a loader's line that is too long is taken");
+    line_len = LINE;
+}
+
+/* Starts by any records: of a slot, and Recovery. */
+static void start_records(void)
+{
+    bool starts = false, recovers = false;
+
+    for (size_t i = 0; i < 400; i++) {
+        make_record();
+        measure(start);
+        starts |= answer[TARPAULARK_START_KIND] == TARPAULARK_STARTS;
+        recovers |= answer[TARPAULARK_START_KIND] == TARPAULARK_RECOVERY;
+    }
+    expect(starts && recovers, "of many records none starts, or none answers Recovery");
+}
+
+/* Starts with the boot image damaged and cut. */
+static void start_damaged(void)
+{
+    slot = 2;
+    for (size_t i = 0; i < 1660; i += i == 48 ? 1580 - 48 : 1) {
+        image[i] ^= 0xFF;
+        measure(slots_fresh);
+        measure(start);
+        image[i] ^= 0xFF;
+    }
+    for (; image_len > 0; image_len -= image_len < 200 ? 1 : 200) {
+        measure(slots_fresh);
+        measure(start);
+    }
+}
+
+static void try_start(void)
+{
+    memset(line, 'l', sizeof line);
+    for (uint32_t version = 0; version <= 4; version++) {
+        make_lined(version);
+        try_misc(version < 3);
+        try_longest();
+        start_records();
+        start_damaged();
+    }
+}
+
 /* Whether the calls got every refusal that the header names. */
 static bool all_met(void)
 {
-    static const uint8_t spans[][2] = {{0, 18}, {21, 27}, {31, 33}, {41, 43}};
+    static const uint8_t spans[][2] = {{0, 18}, {21, 27}, {31, 33}, {41, 43}, {51, 52}};
     bool all = true;
 
     for (size_t i = 0; i < sizeof spans / sizeof spans[0]; i++)
@@ -584,6 +699,7 @@ int main(void)
     try_write();
     try_boot();
     try_slots();
+    try_start();
     all = all_met();
     return report() && all ? 0 : 1;
 }

@@ -1,23 +1,8 @@
 // What other languages call. Numbers and bytes go in; the answer is 0 or the number of the refusal,
 // with the rest of it in a lent array of fixed length. include/tarpaulark.h says the same for C.
 
-use boot_image::number_of;
 use slot_bytes::RECORD;
-use slot_on_bytes::Reply;
 use slot_rules::Op;
-use sparse_rules::Cursor;
-use tarpaulark_numbers::chunk_answer;
-use tarpaulark_numbers::chunk_number;
-use tarpaulark_numbers::cut_answer;
-use tarpaulark_numbers::cut_number;
-use tarpaulark_numbers::header_answer;
-use tarpaulark_numbers::located_answer;
-use tarpaulark_numbers::paired_answer;
-use tarpaulark_numbers::paired_number;
-use tarpaulark_numbers::verdict_answer;
-use tarpaulark_numbers::verdict_number;
-use tarpaulark_numbers::written_answer;
-use tarpaulark_numbers::written_number;
 ghost use mathlib.Core.Path.{_≡_};
 ghost use mathlib.Core.List.{[], _∷_};
 ghost use lib.ListN.{length};
@@ -47,9 +32,7 @@ pub extern "C" fn tarpaulark_judge(image: &[u8], partition_len: u64, out: &mut [
     ensures { λ r. ⌜ (r ≡ numberOf (answer (now (image .entry)) (length (now (image .entry))) «partition_len»))
         × (now (out .exit) ≡ verdictNumbers (answer (now (image .entry)) (length (now (image .entry))) «partition_len»)) ⌝ }
 {
-    let verdict = sparse_judge::judge(image, partition_len);
-    *out = verdict_answer(verdict);
-    verdict_number(verdict)
+    tarpaulark_images::judge(image, partition_len, out)
 }
 
 // Reads the file header of an image, for a partition of so many bytes. Answers block size, total
@@ -59,13 +42,7 @@ pub extern "C" fn tarpaulark_header(image: &[u8], partition_len: u64, out: &mut 
     ensures { λ r. ⌜ (r ≡ first (headerTests (now (image .entry)) (length (now (image .entry))) «partition_len»))
         × (now (out .exit) ≡ headerNumbersBy r (headerOf (now (image .entry)))) ⌝ }
 {
-    let number = sparse_read::header_refusal(image, partition_len);
-    if number != 0 {
-        *out = [0; 6];
-        return number;
-    }
-    *out = header_answer(sparse_read::read_header(image));
-    number
+    tarpaulark_images::header(image, partition_len, out)
 }
 
 // Reads the chunk at an offset of an image, whose first block is given, by the image's own header.
@@ -75,14 +52,7 @@ pub extern "C" fn tarpaulark_chunk(image: &[u8], at: u64, first: u32, out: &mut 
     ensures { λ r. ⌜ (r ≡ numberOf (chunkIn (now (image .entry)) at first))
         × (now (out .exit) ≡ chunkNumbers (chunkIn (now (image .entry)) at first)) ⌝ }
 {
-    let header = sparse_read::read_header(image);
-    let cursor = Cursor {
-        at: at as usize,
-        first,
-    };
-    let read = sparse_read::read_chunk(image, header, cursor);
-    *out = chunk_answer(read);
-    chunk_number(read)
+    tarpaulark_images::chunk(image, at, first, out)
 }
 
 // Stores an image on a partition. Answers as the judge does.
@@ -92,9 +62,7 @@ pub extern "C" fn tarpaulark_store(image: &[u8], partition: &mut [u8], out: &mut
         × (now (out .exit) ≡ verdictNumbers (answer (now (image .entry)) (length (now (image .entry))) (length (now (partition .entry)))))
         × (now (partition .exit) ≡ store (now (image .entry)) (now (partition .entry))) ⌝ }
 {
-    let verdict = sparse_store::store(image, partition);
-    *out = verdict_answer(verdict);
-    verdict_number(verdict)
+    tarpaulark_images::store(image, partition, out)
 }
 
 // Stores an image up to a limit of stored blocks. Answers place, blocks stored.
@@ -109,9 +77,7 @@ pub extern "C" fn tarpaulark_store_limited(
         × (now (out .exit) ≡ countNumbers (cutAnswer limit (now (image .entry)) (length (now (partition .entry)))))
         × (now (partition .exit) ≡ storeUpTo limit (now (image .entry)) (now (partition .entry))) ⌝ }
 {
-    let stored = sparse_store::store_limited(image, partition, limit);
-    *out = cut_answer(stored);
-    cut_number(stored)
+    tarpaulark_images::store_limited(image, partition, limit, out)
 }
 
 // Writes the sparse image of flat bytes. Answers place, which is 0, and the image's length.
@@ -126,9 +92,7 @@ pub extern "C" fn tarpaulark_write(
         × (now (out .exit) ≡ countNumbers (writer.answer (now (flat .entry)) «block_size» (length (now (image .entry)))))
         × (now (image .exit) ≡ writer.output (now (flat .entry)) «block_size» (now (image .entry))) ⌝ }
 {
-    let written = sparse_write::write(flat, block_size, image);
-    *out = written_answer(written);
-    written_number(written)
+    tarpaulark_images::write(flat, block_size, image, out)
 }
 
 // Lists what changed from one image to another, runs of three numbers each. Answers place, the image that a refusal is of,
@@ -145,9 +109,7 @@ pub extern "C" fn tarpaulark_compare(
         (diff.answer (now (first .entry)) (now (second .entry)) (length (now (runs .entry)))))
         × (now (runs .exit) ≡ diff.listed (now (first .entry)) (now (second .entry)) (now (runs .entry))) ⌝ }
 {
-    let found = sparse_diff::compare(first, second, runs);
-    *out = paired_answer(found);
-    paired_number(found)
+    tarpaulark_pairs::compare(first, second, runs, out)
 }
 
 // Makes one image of two that has the effect of the first followed by the second. Answers place, the image that a refusal is
@@ -164,9 +126,7 @@ pub extern "C" fn tarpaulark_join(
         (joiner.answer (now (first .entry)) (now (second .entry)) (length (now (image .entry)))))
         × (now (image .exit) ≡ joiner.output (now (first .entry)) (now (second .entry)) (now (image .entry))) ⌝ }
 {
-    let found = sparse_join::join(first, second, image);
-    *out = paired_answer(found);
-    paired_number(found)
+    tarpaulark_pairs::join(first, second, image, out)
 }
 
 // Begins a pass over an image of so many bytes that arrives in pieces, for a partition of so many bytes.
@@ -230,9 +190,7 @@ pub extern "C" fn tarpaulark_locate(image: &[u8], out: &mut [u64; 17]) -> u32
     ensures { λ r. ⌜ (r ≡ numberOf (boot.answer (now (image .entry))))
         × (now (out .exit) ≡ layoutNumbers (boot.answer (now (image .entry)))) ⌝ }
 {
-    let found = boot_image::locate(image);
-    *out = located_answer(found);
-    number_of(found)
+    tarpaulark_boot::locate(image, out)
 }
 
 // Finds the sections of a boot image for a board launched with a release, by its kernel, 0 plain and 1 generic. Answers as
@@ -247,20 +205,7 @@ pub extern "C" fn tarpaulark_locate_for(
     ensures { λ r. ⌜ (r ≡ numberOf (launch.answer release kernel (now (image .entry))))
         × (now (out .exit) ≡ layoutNumbers (launch.answer release kernel (now (image .entry)))) ⌝ }
 {
-    let found = boot_launch::locate_for(release, kernel, image);
-    *out = located_answer(found);
-    number_of(found)
-}
-
-// Hands a reply over: its bytes and its array to what is lent, its number to the caller.
-fn hand_over(made: Reply, bytes: &mut [u8; RECORD], out: &mut [u64; 2]) -> u32
-    ensures { λ r. ⌜ (r ≡ made .number) × (now (out .exit) ≡ made .answer) × (now (bytes .exit) ≡ made .bytes) ⌝ }
-{
-    let after = made.bytes;
-    let told = made.answer;
-    *bytes = after;
-    *out = told;
-    made.number
+    tarpaulark_boot::locate_for(image, release, kernel, out)
 }
 
 // Makes a fresh slot record. Answers kind and started slot, as each slot operation does; a refusal leaves the bytes.
@@ -274,8 +219,7 @@ pub extern "C" fn tarpaulark_slots_fresh(
         × (now (out .exit) ≡ freshBytes slots (now (bytes .entry)) .answer)
         × (now (bytes .exit) ≡ freshBytes slots (now (bytes .entry)) .bytes) ⌝ }
 {
-    let made = slot_on_bytes::fresh(*bytes, slots);
-    hand_over(made, bytes, out)
+    tarpaulark_slots::fresh(slots, bytes, out)
 }
 
 // Start.
@@ -285,8 +229,7 @@ pub extern "C" fn tarpaulark_slots_start(bytes: &mut [u8; RECORD], out: &mut [u6
         × (now (out .exit) ≡ onBytes Op.Start (now (bytes .entry)) .answer)
         × (now (bytes .exit) ≡ onBytes Op.Start (now (bytes .entry)) .bytes) ⌝ }
 {
-    let made = slot_on_bytes::operate(*bytes, Op::Start);
-    hand_over(made, bytes, out)
+    tarpaulark_slots::start(bytes, out)
 }
 
 // Set active.
@@ -300,8 +243,7 @@ pub extern "C" fn tarpaulark_slots_set_active(
         × (now (out .exit) ≡ onBytes (Op.SetActive slot) (now (bytes .entry)) .answer)
         × (now (bytes .exit) ≡ onBytes (Op.SetActive slot) (now (bytes .entry)) .bytes) ⌝ }
 {
-    let made = slot_on_bytes::set_active(*bytes, slot);
-    hand_over(made, bytes, out)
+    tarpaulark_slots::set_active(bytes, slot, out)
 }
 
 // Partition modified.
@@ -315,8 +257,7 @@ pub extern "C" fn tarpaulark_slots_modified(
         × (now (out .exit) ≡ onBytes (Op.Modified slot) (now (bytes .entry)) .answer)
         × (now (bytes .exit) ≡ onBytes (Op.Modified slot) (now (bytes .entry)) .bytes) ⌝ }
 {
-    let made = slot_on_bytes::partition_modified(*bytes, slot);
-    hand_over(made, bytes, out)
+    tarpaulark_slots::modified(bytes, slot, out)
 }
 
 // Corrupted: the slot's system was found damaged.
@@ -330,8 +271,7 @@ pub extern "C" fn tarpaulark_slots_corrupted(
         × (now (out .exit) ≡ onBytes (Op.Corrupted slot) (now (bytes .entry)) .answer)
         × (now (bytes .exit) ≡ onBytes (Op.Corrupted slot) (now (bytes .entry)) .bytes) ⌝ }
 {
-    let made = slot_on_bytes::slot_corrupted(*bytes, slot);
-    hand_over(made, bytes, out)
+    tarpaulark_slots::corrupted(bytes, slot, out)
 }
 
 // Confirm. The system calls this, never the loader.
@@ -341,8 +281,7 @@ pub extern "C" fn tarpaulark_slots_confirm(bytes: &mut [u8; RECORD], out: &mut [
         × (now (out .exit) ≡ onBytes Op.Confirm (now (bytes .entry)) .answer)
         × (now (bytes .exit) ≡ onBytes Op.Confirm (now (bytes .entry)) .bytes) ⌝ }
 {
-    let made = slot_on_bytes::operate(*bytes, Op::Confirm);
-    hand_over(made, bytes, out)
+    tarpaulark_slots::confirm(bytes, out)
 }
 
 // Whether bytes are a valid slot record: 0, or 31.
@@ -350,7 +289,7 @@ pub extern "C" fn tarpaulark_slots_confirm(bytes: &mut [u8; RECORD], out: &mut [
 pub extern "C" fn tarpaulark_slots_valid(bytes: &[u8; RECORD]) -> u32
     ensures { λ r. ⌜ r ≡ bytesRefusal (now (bytes .entry)) ⌝ }
 {
-    slot_on_bytes::bytes_refusal(*bytes)
+    tarpaulark_slots::valid(bytes)
 }
 
 // How many slots of a record are startable, as the record keeps it, or 0 beside the refusal 31.
@@ -359,9 +298,7 @@ pub extern "C" fn tarpaulark_slots_startable(bytes: &[u8; RECORD], out: &mut [u6
     ensures { λ r. ⌜ (r ≡ bytesStartable (now (bytes .entry)) .number)
         × (now (out .exit) ≡ bytesStartable (now (bytes .entry)) .startable ∷ []) ⌝ }
 {
-    let told = slot_on_bytes::startable(*bytes);
-    *out = [told.startable];
-    told.number
+    tarpaulark_slots::startable(bytes, out)
 }
 
 // Starts the crawler: Start, the started slot's image, of one for each of the places a to d, and the final command line,

@@ -2,15 +2,30 @@
 //
 // Nothing is stored past the buffer's end; what would stand there is counted all the same, so that the answer says
 // how long a text is whatever room it had.
+ghost use mathlib.Core.Path.{_≡_};
 ghost use mathlib.Core.List.{[], _∷_};
+ghost use lib.Seq.{sets};
 ghost use Rattle.text_rules.specs.Words.{decimal, labelled, line};
 ghost use Rattle.text_rules.specs.Put.{Put};
+
+// Bytes stored from `at` on, as many as have room. Each is asked whether it has, so that no compiler makes a call of the
+// loop: the library puts text too, and needs nothing from outside.
+fn lay(out: &mut [u8], at: usize, bytes: &[u8])
+    ensures { λ _. ⌜ now (out .exit) ≡ sets (now (out .entry)) at (now (bytes .entry)) ⌝ }
+{
+    let fit = fields_write::room(out.len(), at, bytes.len());
+    for i in 0..bytes.len() {
+        if i < fit {
+            out[at + i] = bytes[i];
+        }
+    }
+}
 
 // Puts bytes, and answers the place after them.
 pub fn put(out: &mut [u8], at: usize, bytes: &[u8]) -> usize
     ensures { λ r. ⌜ Put (now (out .entry)) at (now (bytes .entry)) (now (out .exit)) r ⌝ }
 {
-    fields_write::copy(out, at, bytes);
+    lay(out, at, bytes);
     if usize::MAX - at < bytes.len() {
         return usize::MAX;
     }

@@ -1,4 +1,4 @@
--- The worked examples P1 to P14, those of requests 4 to 7, 10 and 11, and the lister's texts, computed together: every call of the table gives back what its row says.
+-- The worked examples P1 to P14, those of requests 4 to 7 and 10 to 12, and the lister's texts, computed together: every call of the table gives back what its row says.
 -- Assumes nothing.
 use mathlib.Core.Path.{refl}
 use mathlib.Core.List.{flatten}
@@ -14,6 +14,8 @@ use Rattle.boot_rules.specs.Tests as boot
 use Rattle.boot_launch_rules.specs.Rules.{ruleOf}
 use Rattle.boot_launch_rules.specs.Tests as launch
 use Rattle.boot_launch_rules.specs.Text as releases
+use Rattle.starter_rules.specs.Line.{upToZero, textIn, imageLine, suffix, mode, line, begins, asksRecovery}
+use Rattle.starter_rules.specs.Starter as starter
 use Rattle.sparse_rules.specs.Header.{headerTests}
 use Rattle.sparse_rules.specs.Chunks.{kindOf, sizeRight, chunkTests, chunkAt, reading}
 use Rattle.sparse_rules.specs.Walk.{endTests, walk}
@@ -39,5 +41,5 @@ use Rattle.worked_examples.specs.Calls.{perform}
 use Rattle.worked_examples.specs.Table.{Worked}
 
 pub worked : Worked
-unfolding perform numberAt ones onesIn bit steps byteStep crcFrom crc32 countOf slotsValid startableIn valid firstFrom startOf startableOf startsOf sectionsOf rowOf boot.headTests boot.sectionTests boot.answer ruleOf launch.launchTests launch.answer flatten releases.pairLine releases.takenLine releases.refusedLine releases.textOf releases.text headerTests kindOf sizeRight chunkTests chunkAt reading endTests walk cellsBy cellsOf cells zeroed checksumOf blocksWhere sumTests summed structure judged effectOf effect judge.answerFor judge.answer store blockCells blocksFrom flatBlocks runs allEqual storedKind packed chunkHeader chunk chunks version header image encode write.flatImage write.writeTests write.answer write.output blockFrom stretch blocksOf blocksFound found blocks alike each pairAnswer refusedImage diff.changes diff.diff diff.numbers diff.answer diff.listed join.joinedBlocks join.join join.answer join.output listing listingOf labelled refusedLine headerLine chunkLine chunkLines lastLine digitsUpTo decimal kindWord
+unfolding perform numberAt ones onesIn bit steps byteStep crcFrom crc32 countOf slotsValid startableIn valid firstFrom startOf startableOf startsOf sectionsOf rowOf boot.headTests boot.sectionTests boot.answer ruleOf launch.launchTests launch.answer flatten releases.pairLine releases.takenLine releases.refusedLine releases.textOf releases.text upToZero textIn imageLine suffix mode line begins asksRecovery starter.begun starter.booted starter.afterStart starter.starter headerTests kindOf sizeRight chunkTests chunkAt reading endTests walk cellsBy cellsOf cells zeroed checksumOf blocksWhere sumTests summed structure judged effectOf effect judge.answerFor judge.answer store blockCells blocksFrom flatBlocks runs allEqual storedKind packed chunkHeader chunk chunks version header image encode write.flatImage write.writeTests write.answer write.output blockFrom stretch blocksOf blocksFound found blocks alike each pairAnswer refusedImage diff.changes diff.diff diff.numbers diff.answer diff.listed join.joinedBlocks join.join join.answer join.output listing listingOf labelled refusedLine headerLine chunkLine chunkLines lastLine digitsUpTo decimal kindWord
 worked = refl

@@ -11,6 +11,7 @@ use Rattle.boot_rules.specs.declared.Layout.{Layout}
 use Rattle.boot_rules.specs.Tests as boot
 use Rattle.boot_launch_rules.specs.Tests as launch
 use Rattle.boot_launch_rules.specs.Text.{text}
+use Rattle.starter_rules.specs.Starter.{Effect, starter}
 use Rattle.sparse_rules.specs.declared.Counts.{Counts}
 use Rattle.sparse_rules.specs.Answers as judge
 use Rattle.sparse_store_rules.specs.Store as store
@@ -20,7 +21,7 @@ use Rattle.sparse_diff_rules.specs.Diff as diff
 use Rattle.sparse_join_rules.specs.Join as join
 use Rattle.sparse_list_rules.specs.Listing.{listing}
 
--- a call: an image stored on what a partition holds, flat bytes written at a block size into what an output holds, a boot image located, also for a release and a kernel, or those that take it printed, a slot record started, or its count told, an image listed, two images compared into what a space holds, or joined into what an output holds
+-- a call: an image stored on what a partition holds, flat bytes written at a block size into what an output holds, a boot image located, also for a release and a kernel, or those that take it printed, a slot record started, or its count told, a record started with an image for each place, misc, a loader's line and what a space holds, an image listed, two images compared into what a space holds, or joined into what an output holds
 pub data Call : Type 0 where
   stores : List ℕ → List ℕ → Call
   writes : List ℕ → ℕ → List ℕ → Call
@@ -29,6 +30,7 @@ pub data Call : Type 0 where
   prints : List ℕ → Call
   starts : Record → Call
   tells : Record → Call
+  boots : Record → List (List ℕ) → List ℕ → List ℕ → List ℕ → Call
   lists : List ℕ → Call
   compares : List ℕ → List ℕ → List ℕ → Call
   joins : List ℕ → List ℕ → List ℕ → Call
@@ -40,6 +42,7 @@ pub data Result : Type 0 where
   located : Answer Layout → Result
   started : Change → Result
   told : Answer ℕ → Result
+  booted : Effect → Result
   listed : List ℕ → Result
   printed : List ℕ → Result
   compared : Answer ℕ → ℕ → List ℕ → Result
@@ -54,6 +57,7 @@ perform (locatesFor release kernel s) = located (launch.answer release kernel s)
 perform (prints s) = printed (text s)
 perform (starts r) = started (startOf r)
 perform (tells r) = told (startableOf r)
+perform (boots r images misc loader space) = booted (starter r images misc loader space)
 perform (lists s) = listed (listing s)
 perform (compares s t space) = compared (diff.answer s t (length space)) (refusedImage s t) (diff.listed s t space)
 perform (joins s t out) = joined (join.answer s t (length out)) (refusedImage s t) (join.output s t out)

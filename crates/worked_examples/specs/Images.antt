@@ -3,7 +3,7 @@
 use mathlib.Core.Bool.{Bool, true, false}
 use mathlib.Core.List.{List, [], _∷_, _++_}
 use Prim.Native.Nat.{ℕ, zero, suc, _-_}
-use lib.ListN.{replicate}
+use lib.ListN.{length, replicate}
 use Rattle.fields_rules.specs.Number.{bytes}
 use Rattle.slot_rules.specs.declared.Slot.{Slot}
 use Rattle.slot_rules.specs.declared.Record.{Record}
@@ -95,11 +95,15 @@ boot3 n =
     (0x41 ∷ 0x4E ∷ 0x44 ∷ 0x52 ∷ 0x4F ∷ 0x49 ∷ 0x44 ∷ 0x21 ∷ [])
     ++ (bytes 4 4097 ++ (bytes 4 1 ++ (replicate 4 0 ++ (bytes 4 1580 ++ (replicate 16 0 ++ (bytes 4 3 ++ replicate (n - 44) 0))))))
 
--- request 11: version 4 with no bytes in any section, with this os version
-abbrev pub boot4 : ℕ → List ℕ
-boot4 os =
+-- requests 11 and 12: version 4 with no bytes in any section, with this os version and this text in its cmdline
+abbrev pub boot4With : ℕ → List ℕ → List ℕ
+boot4With os text =
     (0x41 ∷ 0x4E ∷ 0x44 ∷ 0x52 ∷ 0x4F ∷ 0x49 ∷ 0x44 ∷ 0x21 ∷ [])
-    ++ (replicate 8 0 ++ (bytes 4 os ++ (bytes 4 1584 ++ (replicate 16 0 ++ (bytes 4 4 ++ replicate 1540 0)))))
+    ++ (replicate 8 0 ++ (bytes 4 os ++ (bytes 4 1584 ++ (replicate 16 0 ++ (bytes 4 4 ++ (text ++ replicate (1540 - length text) 0))))))
+
+-- with an empty cmdline
+abbrev pub boot4 : ℕ → List ℕ
+boot4 os = boot4With os []
 
 -- P11: "version 2, page 2,048, kernel 2,048, ramdisk 1, dtb 1, others 0", of so many bytes; second size and dtb size are given, for the examples of request 10
 abbrev pub boot2 : ℕ → ℕ → ℕ → List ℕ

@@ -7,9 +7,12 @@ use Prim.Native.Nat.{ℕ}
 use lib.ListN.{replicate}
 use Rattle.rules.specs.Answer.{accepted, refused}
 use Rattle.slot_rules.specs.Answers as slots
+use Rattle.boot_rules.specs.declared.Layout.{Layout}
+use Rattle.starter_rules.specs.Starter as starter
+use Rattle.starter_rules.specs.Theorems.{effect}
 use Rattle.text_rules.specs.Words.{ascii}
-use Rattle.worked_examples.specs.Calls.{Row, perform, stores, writes, locates, locatesFor, prints, starts, tells, lists, compares, joins, stored, written, located, started, told, listed, printed, compared, joined}
-use Rattle.worked_examples.specs.Images.{emptyImage, twoChunks, p2, p7, counts, upFrom, flat, flatImage, firstOfTwo, secondOfTwo, firstUpdate, secondUpdate, bothUpdates, boot3, boot4, boot2, section, none, layout, slot, corruptedSlot, two}
+use Rattle.worked_examples.specs.Calls.{Row, perform, stores, writes, locates, locatesFor, prints, starts, tells, boots, lists, compares, joins, stored, written, located, started, told, booted, listed, printed, compared, joined}
+use Rattle.worked_examples.specs.Images.{emptyImage, twoChunks, p2, p7, counts, upFrom, flat, flatImage, firstOfTwo, secondOfTwo, firstUpdate, secondUpdate, bothUpdates, boot3, boot4With, boot4, boot2, section, none, layout, slot, corruptedSlot, two}
 
 -- P1: "writing 0 bytes at block size 4,096"
 abbrev pub row1 : Row
@@ -223,10 +226,46 @@ rowPrintedOs = record { call = prints (boot4 0x10000); result = printed (ascii "
 abbrev pub rowPrintedRefused : Row
 rowPrintedRefused = record { call = prints (boot3 12288); result = printed (ascii "refused 26\n") }
 
--- P1 to P14, two of request 10 among them, two of request 4, three of request 6, the lister's texts, four of request 5, two of request 7, and eight of request 11
+-- request 12: what is found in the image that the rows below start with
+abbrev pub bootLayout : Layout
+bootLayout = layout 4 (section 4096 0) (section 4096 0) none none (section 4096 0) false
+
+-- P12's record: b starts with its own image, and a's is not looked at; "the loader's line, a space, the image's line", then slot and mode, and "space past it is kept"
+abbrev pub rowBooted : Row
+rowBooted =
+    record {
+      call = boots (two 0 2 (slot false false 0) (slot false true 0)) ([] ∷ boot4With 0 (ascii "quiet") ∷ [] ∷ [] ∷ []) (replicate 32 0) (ascii "console=ttyS0") (replicate 63 7);
+      result = booted (effect (accepted (starter.starts 1 bootLayout 61)) (two 1 1 (slot true false 0) (slot false true 0)) (ascii "console=ttyS0 quiet androidboot.slot_suffix=_b skip_initramfs" ++ replicate 2 7));
+    }
+
+-- "52 exactly when the line needs more than the space": one byte short, and the record as Start left it
+abbrev pub rowBootedShort : Row
+rowBootedShort =
+    record {
+      call = boots (two 0 2 (slot false false 0) (slot false true 0)) ([] ∷ boot4With 0 (ascii "quiet") ∷ [] ∷ [] ∷ []) (replicate 32 0) (ascii "console=ttyS0") (replicate 60 7);
+      result = booted (effect (refused 52 0) (two 1 1 (slot true false 0) (slot false true 0)) (replicate 60 7));
+    }
+
+-- recovery asked for, and an empty loader's line, which still has its space: no ` skip_initramfs`
+abbrev pub rowBootedRecovery : Row
+rowBootedRecovery =
+    record {
+      call = boots (two 0 2 (slot false false 1) (slot false false 3)) (boot4With 0 (ascii "quiet") ∷ [] ∷ [] ∷ [] ∷ []) (ascii "boot-recovery" ++ replicate 19 0) [] (replicate 33 7);
+      result = booted (effect (accepted (starter.starts 0 bootLayout 33)) (two 0 2 (slot false false 0) (slot false false 3)) (ascii " quiet androidboot.slot_suffix=_a"));
+    }
+
+-- "also in a refusal after Start": P10 of 12,288 bytes gets 26, and a's try is spent as in P14
+abbrev pub rowBootedSpent : Row
+rowBootedSpent =
+    record {
+      call = boots (two 0 2 (slot false false 1) (slot false false 3)) (boot3 12288 ∷ [] ∷ [] ∷ [] ∷ []) (replicate 32 0) [] (replicate 64 7);
+      result = booted (effect (refused 26 0) (two 0 2 (slot false false 0) (slot false false 3)) (replicate 64 7));
+    }
+
+-- P1 to P14, two of request 10 among them, two of request 4, three of request 6, the lister's texts, four of request 5, two of request 7, eight of request 11, and four of request 12
 abbrev pub table : List Row
 table =
-    row1 ∷ row2 ∷ row3 ∷ row4 ∷ row5 ∷ row6 ∷ row7 ∷ row8 ∷ row8One ∷ row9 ∷ row9Short ∷ row10 ∷ row10Short ∷ row11 ∷ rowRetired ∷ rowRetiredPast ∷ row12 ∷ row13 ∷ row14 ∷ rowCorrupted ∷ rowNoCandidate ∷ rowCounted ∷ rowMiscounted ∷ rowMiscountedStart ∷ rowListed ∷ rowListedUnknown ∷ rowCompared ∷ rowComparedShort ∷ rowComparedGeometry ∷ rowComparedSecond ∷ rowJoined ∷ rowJoinedShort ∷ rowTaken ∷ rowNotTaken ∷ rowOwn ∷ rowBadRequest ∷ rowOs ∷ rowPrinted ∷ rowPrintedOs ∷ rowPrintedRefused ∷ []
+    row1 ∷ row2 ∷ row3 ∷ row4 ∷ row5 ∷ row6 ∷ row7 ∷ row8 ∷ row8One ∷ row9 ∷ row9Short ∷ row10 ∷ row10Short ∷ row11 ∷ rowRetired ∷ rowRetiredPast ∷ row12 ∷ row13 ∷ row14 ∷ rowCorrupted ∷ rowNoCandidate ∷ rowCounted ∷ rowMiscounted ∷ rowMiscountedStart ∷ rowListed ∷ rowListedUnknown ∷ rowCompared ∷ rowComparedShort ∷ rowComparedGeometry ∷ rowComparedSecond ∷ rowJoined ∷ rowJoinedShort ∷ rowTaken ∷ rowNotTaken ∷ rowOwn ∷ rowBadRequest ∷ rowOs ∷ rowPrinted ∷ rowPrintedOs ∷ rowPrintedRefused ∷ rowBooted ∷ rowBootedShort ∷ rowBootedRecovery ∷ rowBootedSpent ∷ []
 
 -- every call of the table gives back what its row says
 abbrev pub Worked : Type 0
