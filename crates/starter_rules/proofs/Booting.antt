@@ -14,7 +14,7 @@ use Rattle.fields_rules.proofs.Sets.{sets-whole}
 use Rattle.text_rules.specs.Put.{Put}
 use Rattle.slot_rules.specs.Answers as slots
 use Rattle.boot_rules.specs.declared.Layout.{Layout}
-use Rattle.starter_rules.specs.Starter.{starts, recovery, leaving, tooLong, booted, imageOf, bootedFrom, afterStart}
+use Rattle.starter_rules.specs.Starter.{starts, recovery, leaving, needsMore, booted, imageOf, bootedFrom, afterStart}
 
 -- a slot whose image is refused
 pub booted-refused : (k n place : ℕ) (a : Answer Layout) (l space : List ℕ) → refused n place ≡ a → leaving (refused n place) space ≡ booted k a l space
@@ -27,7 +27,7 @@ booted-accepted k layout a l space e = ap (λ (x : Answer Layout). booted k x l 
 
 -- its line is too long, or has room
 module _ (k : ℕ) (layout : Layout) (l space : List ℕ) where
-  pub line-long : tooLong l (length space) ≡ true → leaving (refused 52 0) space ≡ booted k (accepted layout) l space
+  pub line-long : needsMore l (length space) ≡ true → leaving (refused 52 0) space ≡ booted k (accepted layout) l space
   unfolding booted
   line-long e = rw e
 
@@ -41,7 +41,7 @@ module _ (k : ℕ) (layout : Layout) (l space : List ℕ) (n : ℕ) {a b : List 
   longer : (m : ℕ) → ltb m n ≡ true → ltb m (length l) ≡ true
   longer m e = lt-ltb m (length l) (omega (arith, ltb-true m n e, counted .past))
 
-  too-long : (s t : Bool) → ltb (length space) n ≡ s → ltb 4096 n ≡ t → (s || t) ≡ true → tooLong l (length space) ≡ true
+  too-long : (s t : Bool) → ltb (length space) n ≡ s → ltb 4096 n ≡ t → (s || t) ≡ true → needsMore l (length space) ≡ true
   too-long true t e f h = rw (longer (length space) e)
   too-long false true e f h = ap (λ (x : Bool). ltb (length space) (length l) || x) (longer 4096 f) ∙ or-true (ltb (length space) (length l))
   too-long false false e f h = absurd (let z : _≡_ {A = ℕ} 0 1 = cc in omega arith)

@@ -27,7 +27,7 @@ use Rattle.boot_rules.specs.Tests as boot
 use Rattle.boot_rules.proofs.Answers.{refusal-numbers as boot-numbers}
 use Rattle.boot_rules.proofs.Lines.{line-fields}
 use Rattle.starter_rules.specs.Line.{textIn, asksRecovery}
-use Rattle.starter_rules.specs.Starter.{Deed, starts, recovery, leaving, tooLong, booted, imageOf, bootedFrom, Effect, starter}
+use Rattle.starter_rules.specs.Starter.{Deed, starts, recovery, leaving, needsMore, booted, imageOf, bootedFrom, Effect, starter}
 use Rattle.starter_rules.specs.Theorems.{ImageLines, effect, lineOf, EachOrdered, Starting, EachStarting, EachRecovery, RefusalNumbers}
 use Rattle.starter_rules.proofs.Texts.{text-none}
 use Rattle.starter_rules.proofs.Lines.{image-line}
@@ -64,7 +64,7 @@ module _ (r : Record) (images : List (List ℕ)) (misc loader space : List ℕ) 
         found : {a : Answer Deed} {s : List ℕ} → leaving a s ≡ booted k (accepted l) (lineOf images misc loader k) space → starter r images misc loader space ≡ effect a (startOf r .after) s
         found p = boots (p ∙ sym (booted-accepted k l (boot.answer (imageOf images k)) (lineOf images misc loader k) space (sym b)))
 
-        long : tooLong (lineOf images misc loader k) (length space) ≡ true → starter r images misc loader space ≡ effect (refused 52 0) (startOf r .after) space
+        long : needsMore (lineOf images misc loader k) (length space) ≡ true → starter r images misc loader space ≡ effect (refused 52 0) (startOf r .after) space
         long t = found (line-long k l (lineOf images misc loader k) space t)
 
         written : length (lineOf images misc loader k) ≤ length space → length (lineOf images misc loader k) ≤ 4096
@@ -101,7 +101,7 @@ module _ (r : Record) (images : List (List ℕ)) (misc loader space : List ℕ) 
 
     module _ (v : valid r ≡ true) (h : length misc ≡ 32) where
       by-line : (k : ℕ) → startOf r .answer ≡ accepted (slots.starts k) → (l : Layout) → boot.answer (imageOf images k) ≡ accepted l
-          → (t : Bool) → tooLong (lineAt k) (length space) ≡ t → P (starter r images misc loader space .answer)
+          → (t : Bool) → needsMore (lineAt k) (length space) ≡ t → P (starter r images misc loader space .answer)
       by-line k s l b true t = answers (long r images misc loader space v h k s l b t) at-52
       by-line k s l b false t =
           let fits = ltb-false (length space) (length (lineAt k)) (or-left (ltb (length space) (length (lineAt k))) (ltb 4096 (length (lineAt k))) t) in
@@ -109,7 +109,7 @@ module _ (r : Record) (images : List (List ℕ)) (misc loader space : List ℕ) 
           answers (written r images misc loader space v h k s l b fits short) (at-start v h k s l b fits short)
 
       by-image : (k : ℕ) → startOf r .answer ≡ accepted (slots.starts k) → (b : Answer Layout) → boot.answer (imageOf images k) ≡ b → P (starter r images misc loader space .answer)
-      by-image k s (accepted l) b = by-line k s l b (tooLong (lineAt k) (length space)) refl
+      by-image k s (accepted l) b = by-line k s l b (needsMore (lineAt k) (length space)) refl
       by-image k s (refused n place) b = answers (own r images misc loader space v h k s n place b) (at-own k n place b)
 
       by-start : (a : Answer slots.Deed) → startOf r .answer ≡ a → P (starter r images misc loader space .answer)

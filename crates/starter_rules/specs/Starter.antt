@@ -46,14 +46,14 @@ abbrev pub leaving : Answer Deed → List ℕ → Booted
 leaving a space = record { answer = a; space = space }
 
 -- "when the line needs more than the space or than 4,096 bytes"
-abbrev pub tooLong : List ℕ → ℕ → Bool
-tooLong l room = ltb room (length l) || ltb 4096 (length l)
+abbrev pub needsMore : List ℕ → ℕ → Bool
+needsMore l room = ltb room (length l) || ltb 4096 (length l)
 
 -- the slot k, whose image the boot part answers this for, with the line l: "the image's own" refusal, 52, or else the line is written, and "space past it is kept"
 unfoldable pub booted : ℕ → Answer Layout → List ℕ → List ℕ → Booted
 booted k (refused n place) l space = leaving (refused n place) space
 booted k (accepted layout) l space =
-    cond (tooLong l (length space)) (leaving (refused 52 0) space)
+    cond (needsMore l (length space)) (leaving (refused 52 0) space)
     (leaving (accepted (starts k layout (length l))) (l ++ drop (length l) space))
 
 -- the image of the slot k, of one for each of the places a to d; no slot is past d
