@@ -1,4 +1,4 @@
-"""Group `start`: the crawler's starter.
+"""Group `start`: the starter.
 
 An image of a case that is not to be taken is a decoy, which the boot part refuses, or another good
 image; no two images of a case are alike.

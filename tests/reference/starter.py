@@ -1,4 +1,4 @@
-"""The crawler's own starter: document 02, CR 12, over Start and the boot image of document 01."""
+"""The starter: document 02, CR 12, over Start and the boot image of document 01."""
 
 from dataclasses import dataclass
 from typing import NamedTuple, Sequence, Union

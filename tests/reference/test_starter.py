@@ -1,4 +1,4 @@
-"""Holds the crawler's starter of change request 12 against document 02.
+"""Holds the starter of change request 12 against document 02.
 
 Run by `python3 tests/reference/test_starter.py`.
 """

@@ -1,6 +1,6 @@
-// The crawler's own starter: Start once, the started slot's boot image, and the final command line. It takes a record by
-// value and hands one back beside its answer. starter_rules has the rules: specs/Line.antt the line, specs/Starter.antt
-// what is answered and left.
+// The starter: Start once, the started slot's boot image, and the final command line. It takes a record by value and hands
+// one back beside its answer. starter_rules has the rules: specs/Line.antt the line, specs/Starter.antt what is answered
+// and left.
 use slot_rules::Record;
 use starter_boot::boot_slot;
 use starter_rules::Outcome;
@@ -55,8 +55,8 @@ fn follow(
     }
 }
 
-// Starts the crawler: with the record, an image for each of the places a to d, any bytes for one that is not in use, the first
-// 32 bytes of misc, the loader's line, and space for the final one.
+// Starts a slot with its image and line: from the record, an image for each of the places a to d, any bytes for one that is
+// not in use, the first 32 bytes of misc, the loader's line, and space for the final one.
 pub fn start(
     given: Record,
     a: &[u8],

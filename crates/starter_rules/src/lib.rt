@@ -1,4 +1,4 @@
-// The crawler's own starter as definitions and theorems, and the types that the code over it shares. No code.
+// The starter as definitions and theorems, and the types that the code over it shares. No code.
 use boot_rules::Layout;
 use slot_rules::Record;
 

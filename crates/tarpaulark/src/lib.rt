@@ -301,9 +301,9 @@ pub extern "C" fn tarpaulark_slots_startable(bytes: &[u8; RECORD], out: &mut [u6
     tarpaulark_slots::startable(bytes, out)
 }
 
-// Starts the crawler: Start, the started slot's image, of one for each of the places a to d, and the final command line,
-// which is put into the space. Answers kind, started slot and the line's length, then as the finder of sections does. A
-// refusal after Start leaves the bytes that Start leaves.
+// Starts a slot: Start, the started slot's image, of one for each of the places a to d, and the final command line, which is
+// put into the space. Answers kind, started slot and the line's length, then as the finder of sections does. A refusal
+// after Start leaves the bytes that Start leaves.
 #[no_mangle]
 pub extern "C" fn tarpaulark_start(
     bytes: &mut [u8; RECORD],

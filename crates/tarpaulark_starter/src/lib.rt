@@ -63,7 +63,7 @@ fn start_answer(o: Outcome) -> [u64; 20]
     }
 }
 
-// Starts the crawler with the record in lent bytes; bytes that are no record are refused with 31.
+// Starts a slot with its image and line, by the record in lent bytes; bytes that are no record are refused with 31.
 pub fn start(
     bytes: &mut [u8; RECORD],
     a: &[u8],

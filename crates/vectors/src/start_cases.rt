@@ -1,4 +1,4 @@
-// The crawler's own starter: a record, four images, misc, the loader's line and some space.
+// The starter: a record, four images, misc, the loader's line and some space.
 use crate::support::least;
 use crate::support::part;
 use crate::support::prepare;
