@@ -355,27 +355,55 @@ static void put_name(const char *name)
     }
 }
 
-void name_image(const char *which, const char *path)
+/* The name of an image: a member, or a line that begins with these words. */
+static void say_name(const char *words, const char *path)
 {
     if (answer.json) {
-        say_text("image", which);
         say_text("name", path);
         return;
     }
-    fprintf(stderr, "in the %s image, ", which);
+    fprintf(stderr, "%s ", words);
     put_name(path);
     fputc('\n', stderr);
 }
 
+void name_image(const char *which, const char *path)
+{
+    char words[32];
+
+    snprintf(words, sizeof words, "in the %s image,", which);
+    say_only_json("image", which);
+    say_name(words, path);
+}
+
 void name_image_of(char slot, const char *path)
 {
+    char words[32];
+
+    snprintf(words, sizeof words, "in the image of slot %c,", slot);
+    say_name(words, path);
+}
+
+void name_image_counted(const char *path)
+{
+    say_name("in counting", path);
+}
+
+void say_refused_image(const char *path, uint32_t number)
+{
+    const char *meaning = refusal_meaning(number);
+
     if (answer.json) {
+        open_item();
         say_text("name", path);
+        say_number("number", number);
+        say_text("meaning", meaning);
+        close_bracket();
         return;
     }
-    fprintf(stderr, "in the image of slot %c, ", slot);
+    fputs("tarpaulark: ", stderr);
     put_name(path);
-    fputc('\n', stderr);
+    fprintf(stderr, ": refused %" PRIu32 ": %s\n", number, meaning);
 }
 
 static void explain(const char *path, const char *what, int error)

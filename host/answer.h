@@ -67,9 +67,13 @@ enum status finish_text(void);
 enum status refuse(uint32_t number, uint64_t place);
 enum status refuse_because(uint32_t number, uint64_t place, const char *meaning);
 
-/* Says after a refusal in which of two images it is, or in the image of which slot. */
+/* Says after a refusal in which of two images it is, or in the image of which slot, or when which one was counted. */
 void name_image(const char *which, const char *path);
 void name_image_of(char slot, const char *path);
+void name_image_counted(const char *path);
+
+/* Says of one of many images that it is refused, in a line of its own on standard error or as an item of a list. */
+void say_refused_image(const char *path, uint32_t number);
 
 /* More words to an answer or a refusal, a line of their own on standard error. */
 void advise(const char *name, const char *words);

@@ -7,15 +7,17 @@
 #include <stdbool.h>
 #include <stdint.h>
 
-enum { MOST_WORDS = 3, SLOTS = 4 };
+enum { SLOTS = 4 };
 
 struct request {
-    const char *words[MOST_WORDS + 1]; /* those that are no option; then null */
+    const char **words; /* those that are no option; then null */
     bool dry_run;
     bool has_limit;
     uint64_t limit;
     bool has_length;
     uint64_t length; /* of an image that comes by standard input */
+    bool has_partition_length;
+    uint64_t partition_length; /* that images are judged for */
     bool map;        /* one of the two images in place of the list of runs */
     const char *svg; /* null where there is none; so are those below */
     const char *images[SLOTS]; /* the boot image of each slot, from a on */
@@ -29,6 +31,7 @@ enum status list(const struct request *request);
 enum status map(const struct request *request);
 enum status diff(const struct request *request);
 enum status join(const struct request *request);
+enum status report(const struct request *request);
 enum status sections(const struct request *request);
 enum status rules(const struct request *request);
 enum status slots(const struct request *request);

@@ -145,6 +145,14 @@ struct mapped read_image(const char *path)
     return file;
 }
 
+void release_file(struct mapped *file)
+{
+    if (file->length != 0)
+        munmap(file->at, file->length);
+    close(file->file);
+    *file = (struct mapped){.path = file->path, .file = -1, .at = no_bytes, .use = file->use};
+}
+
 static bool is_same_time(struct timespec one, struct timespec other)
 {
     return one.tv_sec == other.tv_sec && one.tv_nsec == other.tv_nsec;

@@ -36,11 +36,14 @@ bool is_same(const struct stat *one, const struct stat *other);
 /* A file that the answer would be printed to is bad usage. */
 void expect_apart(const char *path, const struct stat *status);
 
-/* Locks an open file until the program ends, and maps it. */
+/* Locks an open file until it is released or the program ends, and maps it. */
 void hold_file(struct mapped *file);
 
 /* An image to read, opened and held. */
 struct mapped read_image(const char *path);
+
+/* Closes an open file, which then is neither locked nor mapped. */
+void release_file(struct mapped *file);
 
 /* Fails where a file was changed since it was held. */
 void expect_unchanged(const struct mapped *file, const char *what);

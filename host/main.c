@@ -43,6 +43,11 @@ static const struct command {
      "          what storing the first (A) and then the second (B) leaves; blocks that neither\n"
      "          writes are kept; it is compact, and states its checksum; total blocks x block size\n"
      "          is at most 2,147,483,648"},
+    {"report", 1, SIZE_MAX, PARTITION_LENGTH, report, "report IMAGE .. [--partition-length BYTES]",
+     "adds up any number of sparse images, each judged for a partition of so many bytes, or as\n"
+     "          if it had room: how many are accepted, blocks and bytes that they write, blocks that\n"
+     "          they skip, total blocks x block size of the largest, and how many got each refusal\n"
+     "          number; each that is refused is named on standard error, and is no failure"},
     {"write", 3, 3, 0, write_image, "write FLAT BLOCK-SIZE OUT", "makes a sparse image from flat bytes"},
     {"sections", 1, 1, 0, sections, "sections BOOT-IMAGE",
      "prints the version of a boot image, then name, position and size of each\n"
@@ -90,12 +95,16 @@ static const char options_help[] =
     "\n"
     "Of an accepted image's blocks, `written` are those of raw and fill chunks, `skipped` those\n"
     "of don't care chunks alone, `unknown` those of chunks of any other type, which are kept as\n"
-    "the skipped ones are. Where there are such chunks, judge, store, list and join say on\n"
-    "standard error how many, and type and offset of the first; of - only how many blocks they\n"
-    "have.\n"
+    "the skipped ones are; `skipped` in a report are both together. Where there are such chunks,\n"
+    "judge, store, list and join say on standard error how many, and type and offset of the\n"
+    "first; of - only how many blocks they have.\n"
     "\n"
     "A header checksum of 0 states none: such an image is accepted without its data being\n"
     "checked, which judge, store, list and join say on standard error.\n"
+    "\n"
+    "--partition-length gives the bytes of the partition that the images of a report are judged\n"
+    "for; where it is left out, none gets 6, which is for want of room. Where standard output is\n"
+    "a terminal, a bar and words show what was refused how often.\n"
     "\n"
     "A slot record of 21 bytes, as tarpaulark 0.5.0 and 0.6.0 made it, lacks the count of\n"
     "startable slots; one of 17 bytes, as 0.4.0 and before made it, the flag corrupted too. They\n"

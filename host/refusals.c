@@ -38,6 +38,7 @@ static const char *const meaning[] = {
     [TARPAULARK_BAD_RELEASE_OS] = "os version not 0, as it must be for the release with that kernel",
     [TARPAULARK_BAD_MISC] = "misc under 32 bytes",
     [TARPAULARK_BAD_LINE] = "the line needs more than 4,096 bytes",
+    [TARPAULARK_BAD_REPORT] = "a total would pass 64 bits: report on fewer images at a time",
 };
 
 const char *refusal_meaning(uint32_t number)

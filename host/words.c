@@ -47,6 +47,13 @@ static void take_length(struct line *line, const char *value)
     line->options |= LENGTH;
 }
 
+static void take_partition_length(struct line *line, const char *value)
+{
+    line->request.partition_length = number_after(value, "--partition-length takes a number of bytes");
+    line->request.has_partition_length = true;
+    line->options |= PARTITION_LENGTH;
+}
+
 static void take_svg(struct line *line, const char *value)
 {
     if (value == NULL || value[0] == '-')
@@ -123,6 +130,7 @@ static void take_json(struct line *line)
 static const struct known known[] = {
     {"--limit", NULL, take_limit},
     {"--length", NULL, take_length},
+    {"--partition-length", NULL, take_partition_length},
     {"--svg", NULL, take_svg},
     {"--image", NULL, take_image},
     {"--misc", NULL, take_misc},
@@ -162,8 +170,22 @@ static void take_word(struct line *line, const char *word)
 {
     if (line->command == NULL)
         line->command = word;
-    else if (line->count++ < MOST_WORDS)
-        line->request.words[line->count - 1] = word;
+    else
+        line->request.words[line->count++] = word;
+}
+
+/* Room for all words that there are, and for null after them. */
+static const char **room_for(char **words)
+{
+    const char **room;
+    size_t count = 0;
+
+    while (words[count] != NULL)
+        count++;
+    room = calloc(count + 1, sizeof *room);
+    if (room == NULL)
+        failed(NULL, "there is no memory for so many words; name fewer files", 0);
+    return room;
 }
 
 /* An object is printed also where the words are wrong. */
@@ -177,6 +199,7 @@ static void choose_form(char **words)
 void take_words(struct line *line, char **words)
 {
     choose_form(words);
+    line->request.words = room_for(words);
     while (*words != NULL && strcmp(*words, "--") != 0) {
         if (**words == '-' && (*words)[1] != '\0')
             words += take_option(line, words);

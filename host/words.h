@@ -7,7 +7,10 @@
 #include <stddef.h>
 
 /* Options that only some commands take. */
-enum option { DRY_RUN = 1, LIMIT = 2, SVG = 4, LENGTH = 8, MAP = 16, IMAGE = 32, MISC = 64, LINE = 128 };
+enum option {
+    DRY_RUN = 1, LIMIT = 2, SVG = 4, LENGTH = 8, MAP = 16, IMAGE = 32, MISC = 64, LINE = 128,
+    PARTITION_LENGTH = 256
+};
 
 struct line {
     const char *command; /* null where there is none */

@@ -1,15 +1,16 @@
 /*
  * Tarpaulark: judges and stores Android sparse images, whole or as they arrive in
- * pieces, compares two of them, joins two into one, writes them from flat bytes,
- * finds the sections of a boot image, says whether a board launched with a release
- * takes it, keeps the slot record, and starts a slot: picks it, finds the sections of
- * its boot image and writes the kernel's command line.
+ * pieces, compares two of them, joins two into one, writes them from flat bytes, adds
+ * up what any number of them do in a report, finds the sections of a boot image, says
+ * whether a board launched with a release takes it, keeps the slot record, and starts
+ * a slot: picks it, finds the sections of its boot image and writes the kernel's
+ * command line.
  *
  * Every function takes any input and always ends. It returns 0, or the number of
  * the first refusal that applies, and fills the lent array `answer`, whose length
  * is fixed; entries that do not apply are 0. A refusal stores nothing, lists
- * nothing, writes no image and no line and changes no slot record, with two
- * exceptions: a storing pass that refuses late (see Passes, below), and
+ * nothing, writes no image and no line and changes no slot record and no report, with
+ * two exceptions: a storing pass that refuses late (see Passes, below), and
  * tarpaulark_start, which leaves the record as Start left it also where it refuses
  * after that.
  *
@@ -21,12 +22,13 @@
  *
  * Bytes, and the numbers of a space for runs, are lent as a pointer and how many
  * there are. Lend the whole stretch; a pointer with 0 of them is never followed. An
- * answer, a record and a pass are lent whole, in the lengths that are named below,
- * and must not be null. Numbers are lent aligned as C has arrays of their type;
+ * answer, a record, a pass and a report are lent whole, in the lengths that are named
+ * below, and must not be null. Numbers are lent aligned as C has arrays of their type;
  * bytes may begin anywhere. What is written (a partition, an output, a space for
- * runs or for a line, a record, a pass, an answer) must not overlap anything else that
- * is lent to the call; what is only read may, so two images may be one and the same.
- * Nobody else writes to what is lent meanwhile.
+ * runs or for a line, a record, a pass, a report, an answer) must not overlap anything
+ * else that is lent to the call; what is only read may, so two images may be one and
+ * the same, but two reports that are added may not. Nobody else writes to what is lent
+ * meanwhile.
  *
  * From 0.3.0 to 0.4.0 the answers of judge, store and of finishing a pass grew from
  * 3 entries to 4, and a pass from 104 bytes to 112. From 0.4.0 to 0.5.0 a slot
@@ -44,8 +46,8 @@
  * and library go together: a library before 0.10.0 writes two numbers past an array of
  * 17, and code compiled with an older header, or with numbers in place of the names
  * below, looks for recovery, dtb and signature in the wrong entries and reads two that
- * no call fills: compile it anew, with the names. 0.11.0 only adds to 0.10.0, and
- * 0.12.0 only to 0.11.0.
+ * no call fills: compile it anew, with the names. 0.11.0 only adds to 0.10.0, 0.12.0
+ * only to 0.11.0, and 0.13.0 only to 0.12.0.
  *
  * Where it runs
  *
@@ -74,10 +76,12 @@
  * the image and then to write it, and both times scans these blocks, each up to its
  * first word that differs, and twice where its kind is another than that of the block
  * before it. Those that stay raw are gone over twice more, to copy them and for the
- * checksum. Blocks of all other chunks cost nothing of their own. Starting a slot by
- * tarpaulark_start takes time in proportion to the loader's line and to the line that
- * is written, and otherwise a fixed number of steps, however long the images are. All
- * else takes a fixed number of steps.
+ * checksum. Blocks of all other chunks cost nothing of their own. Counting an image in
+ * a report takes what judging it takes, and a fixed number of steps, however many
+ * images are counted there already; adding two reports takes a fixed number. Starting a
+ * slot by tarpaulark_start takes time in proportion to the loader's line and to the
+ * line that is written, and otherwise a fixed number of steps, however long the images
+ * are. All else takes a fixed number of steps.
  *
  * What a restart assumes
  *
@@ -97,10 +101,10 @@
 #include <stdint.h>
 
 /* The version of the header, the library and the host tool; it stands only here. */
-#define TARPAULARK_VERSION "0.12.0"
+#define TARPAULARK_VERSION "0.13.0"
 
 /* Lengths of the answers, of a slot record and each slot in it, of what is lent of the
-   misc partition, of the state of a pass, and of a run in numbers. */
+   misc partition, of the state of a pass, and of a run and of a report in numbers. */
 #define TARPAULARK_JUDGE_ANSWER 4
 #define TARPAULARK_STORE_ANSWER 4
 #define TARPAULARK_STORE_LIMITED_ANSWER 2
@@ -120,6 +124,7 @@
 #define TARPAULARK_COMPARE_ANSWER 3
 #define TARPAULARK_RUN 3
 #define TARPAULARK_JOIN_ANSWER 3
+#define TARPAULARK_REPORT 16
 
 /* Where the state of a pass has the known fields of the file header, once they have come. */
 #define TARPAULARK_PASS_HEADER 68
@@ -152,8 +157,9 @@
  * Refusals. Tests run in the order listed, but for 13 before 12, 27 before 26, and
  * for a pass 16, 14, 15 before all others; for compare and join the first image's
  * own, the second's own, 17, 18; for a launch release 41 before the boot image's own;
- * for tarpaulark_start 31, 51, the boot image's own, 52. Chunks are tested in order,
- * each fully before the next.
+ * for tarpaulark_start 31, 51, the boot image's own, 52. For a report 61 is the only
+ * one: an image's own is counted there. Chunks are tested in order, each fully before
+ * the next.
  *
  * A sparse refusal carries a place: 0 for numbers 1 to 6, the chunk's offset for
  * 7, 8 and a passed total, the offset after the header and all chunks for a short
@@ -236,7 +242,9 @@ enum tarpaulark_refusal {
     TARPAULARK_BAD_MISC = 51,
     /* the line needs more bytes than the lent space has, or than 4,096 (after 21 to
        27) */
-    TARPAULARK_BAD_LINE = 52
+    TARPAULARK_BAD_LINE = 52,
+    /* a total of the report would pass 64 bits */
+    TARPAULARK_BAD_REPORT = 61
 };
 
 /* Positions in the answers of judge, store, a pass, store_limited and write. The
@@ -294,6 +302,17 @@ enum {
     TARPAULARK_ONLY_SECOND = 2, /* only the second does */
     TARPAULARK_EQUAL = 3,       /* both do, with the same bytes */
     TARPAULARK_DIFFERENT = 4    /* both do, each block with other bytes */
+};
+
+/* Positions in a report. Refusal number n, 1 to 11, is counted at
+   TARPAULARK_REPORT_REFUSED + n - 1. */
+enum {
+    TARPAULARK_REPORT_ACCEPTED = 0, /* images that are accepted */
+    TARPAULARK_REPORT_BLOCKS = 1,   /* blocks that these write */
+    TARPAULARK_REPORT_BYTES = 2,    /* bytes that they write */
+    TARPAULARK_REPORT_SKIPPED = 3,  /* blocks that they skip: don't care and unknown */
+    TARPAULARK_REPORT_LARGEST = 4,  /* the largest total blocks x block size of one */
+    TARPAULARK_REPORT_REFUSED = 5   /* images that are refused with 1; then with 2 to 11 */
 };
 
 /* Positions in the answers of locate and locate_for, and in that of start from
@@ -606,6 +625,59 @@ uint32_t tarpaulark_pass_store_piece(
 uint32_t tarpaulark_pass_store_finish(
     uint8_t pass[TARPAULARK_PASS], const uint8_t *partition, size_t partition_len,
     uint64_t answer[TARPAULARK_FINISH_ANSWER]);
+
+/*
+ * Reports: what any number of sparse images do, added up.
+ *
+ * A report is TARPAULARK_REPORT numbers, which the caller lends to each call and keeps
+ * between them:
+ *
+ *    at 0        images accepted
+ *    at 1        blocks that they write, those of raw and fill chunks
+ *    at 2        bytes that they write, each image's blocks x its block size
+ *    at 3        blocks that they skip, those of don't care chunks and of chunks of
+ *                unknown type together
+ *    at 4        the largest total blocks x block size of an accepted image, 0 where
+ *                there is none
+ *    at 5 to 15  images refused with 1, with 2 and so on to 11
+ *
+ * A report of zeros is the empty one: begin with that. Any numbers at all are a report:
+ * no call does anything outside what is lent to it, or fails to end, whatever they are.
+ *
+ * All but the largest are totals. From an empty report on they are the sums over the
+ * images that were counted, and the largest is the largest of them. An image that is
+ * counted twice counts twice.
+ *
+ * Images may also be counted in halves, or in any number of parts, each into a report
+ * of its own that begins empty, in turn or at one time; added up, they are the report
+ * of all images. Where all totals fit, it makes no difference in which order images
+ * are counted and reports added, and which reports are added first.
+ *
+ * Refusal: 61, exactly when a total would pass 64 bits. The report then stays as it was
+ * before the call, with what was counted until then: go on with an empty one, and keep
+ * both. The largest is no total, so it never gives 61.
+ */
+
+/*
+ * Judges a sparse image for a partition of partition_len bytes, as tarpaulark_judge
+ * does, and counts it. Reads the image; writes the report. An accepted image adds to
+ * the entries 0 to 3, and becomes the largest where it is larger; a refused one adds 1
+ * to the entry of its number, and nothing else, and is no refusal here: the call
+ * returns 0. Which of both it was is seen by comparing the report before and after.
+ * Refusal: 61; then the image is not counted.
+ */
+uint32_t tarpaulark_report_count(
+    uint64_t report[TARPAULARK_REPORT], const uint8_t *image, size_t image_len,
+    uint64_t partition_len);
+
+/*
+ * Adds another report to a report: each total is the sum of the two, and the largest is
+ * the larger of the two. Reads both; writes the first alone. The other one must not be
+ * the same memory: copy a report that is to be added to itself.
+ * Refusal: 61; then both stay as they were.
+ */
+uint32_t tarpaulark_report_add(
+    uint64_t report[TARPAULARK_REPORT], const uint64_t other[TARPAULARK_REPORT]);
 
 /*
  * Finds the sections of a boot image. Reads the image.

@@ -13,9 +13,10 @@ and ends with 1, also when a call crashes or does not end.
 A function of the library takes its arguments in order, then a pointer to the
 numbers it answers with, whose count is fixed; one that answers none takes no such
 pointer.  Bytes are a pointer and a length; a space for numbers of 32 bits is a
-pointer and how many it has; a slot record is a pointer to its 22 bytes, and the
-state of a pass to its 112.  It returns 0 or the number of its refusal; beginning a
-pass returns nothing.  include/tarpaulark.h has the declarations.
+pointer and how many it has; a slot record is a pointer to its 22 bytes, the state of
+a pass to its 112, and a report to its 16 numbers of 64 bits.  It returns 0 or the
+number of its refusal; beginning a pass returns nothing.  include/tarpaulark.h has the
+declarations.
 """
 
 import argparse
@@ -40,6 +41,7 @@ import cases_compare
 import cases_join
 import cases_launch
 import cases_passes
+import cases_report
 import cases_slots
 import cases_sparse
 import cases_start
@@ -74,8 +76,11 @@ LARGEST_LENT = 40000
 MOST_NUMBERS = 3000
 REFUSED = 3
 CHUNK_KINDS = {sparse.RAW: 0, sparse.FILL: 1, sparse.DONT_CARE: 2, sparse.UNKNOWN: 3}
-# What is lent with a count, and how many bytes each takes that is counted.
-COUNTED: Dict[Union[str, int], int] = {"bytes": 1, "numbers": 4}
+# What is lent, and how many bytes each number in it takes; and which of it with a count of these.
+WIDTHS: Dict[Union[str, int], int] = {
+    "bytes": 1, "numbers": 4, "record": 1, "state": 1, "report": 8
+}
+COUNTED = ("bytes", "numbers")
 
 Argument = Union[bytes, int]
 Expected = Union[bytes, Dict[int, bytes]]
@@ -103,8 +108,8 @@ class Outcome(NamedTuple):
 
 class Function(NamedTuple):
     """A function of the library: its arguments' types (`bytes`, `numbers`, `record`,
-    `state` or a number's width in bits), how many numbers it answers, whether it
-    returns one."""
+    `state`, `report` or a number's width in bits), how many numbers it answers, whether
+    it returns one."""
 
     name: str
     types: Tuple[Union[str, int], ...]
@@ -171,14 +176,14 @@ def as_number_array(data: bytes) -> Tuple[int, ...]:
     return tuple(int.from_bytes(data[at:at + 8], sys.byteorder) for at in range(0, len(data), 8))
 
 
-def as_space(numbers: Sequence[int]) -> bytes:
-    """The bytes of a space that holds some 32-bit numbers."""
-    return b"".join(number.to_bytes(COUNTED["numbers"], sys.byteorder) for number in numbers)
+def as_bytes(kind: str, numbers: Sequence[int]) -> bytes:
+    """The bytes of what is lent with these numbers in it."""
+    return b"".join(number.to_bytes(WIDTHS[kind], sys.byteorder) for number in numbers)
 
 
 def lent_buffer(kind: Union[str, int], data: bytes, rng: random.Random) -> Guarded:
     """A buffer for an argument: at any byte, or where a number may stand."""
-    step = COUNTED.get(kind, 1)
+    step = WIDTHS[kind]
     return Guarded(data, step * below(rng, 8 // step))
 
 
@@ -197,7 +202,7 @@ def outcome_of(
         if isinstance(item, bytes):
             address = next(buffers).address()
             values.append(address if item or below(rng, 2) == 0 else 0)
-            values += [len(item) // COUNTED[kind]] if kind in COUNTED else []
+            values += [len(item) // WIDTHS[kind]] if kind in COUNTED else []
         else:
             values.append(item)
     number = foreign(*values, *([out.address()] if function.answers else []))
@@ -550,8 +555,9 @@ def compare_call(rng: random.Random) -> Call:
     space = [rng.getrandbits(32) for _ in range(numbers_lent(rng, first, second))]
     answer = compare.compare(first, second, len(space))
     number, *out = cases_compare.answer_values(answer)
-    after = as_space(compare.space_after(answer, space))
-    return Call((first, second, as_space(space)), number, tuple(out), (first, second, after))
+    after = as_bytes("numbers", compare.space_after(answer, space))
+    lent = as_bytes("numbers", space)
+    return Call((first, second, lent), number, tuple(out), (first, second, after))
 
 
 def join_call(rng: random.Random) -> Call:
@@ -700,6 +706,101 @@ def start_call(rng: random.Random) -> Call:
     number, answer, record, after = cases_start.result_of(case, space)
     read = (*images, case.misc, line)
     return Call((case.record, *read, space), number, answer, (record, *read, after))
+
+
+# Reports.
+
+COUNT = Function("report_count", ("report", "bytes", 64), 0)
+ADD = Function("report_add", ("report", "report"), 0)
+
+
+def as_report(numbers: Sequence[int]) -> bytes:
+    """The bytes of a report as it is lent."""
+    return as_bytes("report", numbers)
+
+
+def counted_image(rng: random.Random) -> Tuple[bytes, int]:
+    """An image to count, and the length of the partition that it is judged for."""
+    image = sparse_input(rng, False)
+    return image, pick(rng, (partition_length(rng, image),) * 6 + (ROOM, rng.getrandbits(64)))
+
+
+def report_call(case: cases_report.Case) -> Call:
+    """A call that counts an image or adds a report, as the reference has it: 61 or 0, and the
+    report after; what is counted or added stays."""
+    number, after = cases_report.answer_of(case)
+    left = as_report(cases_report.numbers_of(after))
+    numbers = as_report(case.numbers)
+    if isinstance(case, cases_report.Adding):
+        other = as_report(case.other)
+        return Call((numbers, other), number, (), (left, other))
+    return Call((numbers, case.image, case.partition_length), number, (), (left, case.image))
+
+
+@lru_cache(maxsize=None)
+def vector_reports() -> List[cases_report.Case]:
+    """The cases that the vectors have."""
+    return cases_report.all_cases(random.Random(SEED))
+
+
+def edge_case(rng: random.Random, kind: type) -> cases_report.Case:
+    """One of these that counts or adds, with one number replaced, or as it is."""
+    case = pick(rng, [case for case in vector_reports() if isinstance(case, kind)])
+    at, number = below(rng, cases_report.NUMBERS), cases_report.near_edge(rng, below(rng, 3))
+    other = cases_report.with_number(case.numbers, at, number)
+    return case._replace(numbers=pick(rng, (case.numbers, other)))
+
+
+def report_count_call(rng: random.Random) -> Call:
+    """`report_count`: the report is updated, or stays with 61."""
+    if below(rng, 8) == 0:
+        return report_call(edge_case(rng, cases_report.Counting))
+    return report_call(cases_report.random_counting(rng, *counted_image(rng)))
+
+
+def report_add_call(rng: random.Random) -> Call:
+    """`report_add`: the first report is updated, or stays with 61; the second stays."""
+    if below(rng, 4) == 0:
+        return report_call(edge_case(rng, cases_report.Adding))
+    return report_call(cases_report.random_adding(rng))
+
+
+def few_numbers(rng: random.Random) -> cases_report.Numbers:
+    """A report such that no total of eight of them, and of some images, passes 64 bits."""
+    return tuple(rng.getrandbits(below(rng, 61)) for _ in range(cases_report.NUMBERS))
+
+
+def list_sums(reports: Sequence[cases_report.Numbers]) -> List[int]:
+    """The sums over a list, but the greatest in the place of the largest."""
+    return [
+        max(column) if at == cases_report.LARGEST_AT else sum(column)
+        for at, column in enumerate(zip(*reports))
+    ]
+
+
+def taken_out(rng: random.Random, items: List[bytes]) -> bytes:
+    """One of the items, which is no longer among them."""
+    return items.pop(below(rng, len(items)))
+
+
+def report_calls(rng: random.Random) -> Calls:
+    """Some reports, which images are counted into, and which are added in any order and grouping
+    until one is left: all totals fit, so that holds their sums and those over the images."""
+    starts = [cases_report.ZEROS, *(few_numbers(rng) for _ in range(1 + below(rng, 7)))]
+    images = [counted_image(rng) for _ in range(below(rng, 12))]
+    shares = [cases_report.alone(*image) for image in images]
+    reports = [as_report(numbers) for numbers in starts]
+    while images or len(reports) > 1:
+        numbers = as_number_array(taken_out(rng, reports))
+        if images and (not reports or below(rng, 2) == 0):
+            case: cases_report.Case = cases_report.Counting(numbers, *images.pop())
+            outcome = yield COUNT, report_call(case)
+        else:
+            case = cases_report.Adding(numbers, as_number_array(taken_out(rng, reports)))
+            outcome = yield ADD, report_call(case)
+        reports.append(outcome.after[0])
+    whole, nothing = as_report(list_sums(starts + shares)), as_report(cases_report.ZEROS)
+    yield ADD, Call((reports[0], nothing), 0, (), (whole, nothing))
 
 
 # Passes.
@@ -922,6 +1023,9 @@ KINDS = (
     single("slots_corrupted", ("record", 32), 2, slots_call(cases_slots.CORRUPTED, True)),
     single("slots_confirm", ("record",), 2, slots_call(cases_slots.CONFIRM, False)),
     single("start", ("record",) + ("bytes",) * 7, 20, start_call),
+    single(COUNT.name, COUNT.types, COUNT.answers, report_count_call),
+    single(ADD.name, ADD.types, ADD.answers, report_add_call),
+    Kind("reports", (COUNT, ADD), report_calls),
     Kind("pass", PASS_FUNCTIONS, pass_calls),
     Kind("forged_pass", PASS_FUNCTIONS, forged_calls),
 )

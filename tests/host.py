@@ -46,6 +46,7 @@ import demo
 import join
 import launch
 import passes
+import report
 import slots
 import sparse
 import starter
@@ -280,6 +281,12 @@ def taken_by(version: int, takers: str, others: str, no_os: str = "") -> str:
     return "\n".join(lines)
 
 
+def reported(accepted: int, blocks: int, written: int, skipped: int, largest: int, *refused: str) -> str:
+    """What a report says: its five numbers, and how many images got each refusal number, as `6 1`."""
+    lines = [f"accepted {accepted}", f"blocks {blocks}", f"bytes {written}", f"skipped {skipped}", f"largest {largest}"]
+    return "\n".join(lines + [f"refused {one}" for one in refused])
+
+
 # What goes before the options of `start`, and what it prints for the files above.
 BOTH = "--image a=lined --image b=lined-old"
 ENDS = "androidboot.slot_suffix=_{}"
@@ -417,6 +424,49 @@ CASES = (
     Case("join missing p2 refused", 3, ""),
     Case("join - p2 refused", 3, ""),
     Case("join p2 p7 missing/image", 3, ""),
+    Case("report p2", 0, reported(1, 1, 4, 2, 12)),
+    Case("report p7", 0, reported(1, 1, 4, 2, 12)),
+    Case("report p8", 0, reported(1, 1, 4, 2, 12)),
+    Case("report nothing", 0, reported(1, 0, 0, 0, 0)),
+    Case("report none", 0, reported(0, 0, 0, 0, 0, "1 1")),
+    Case("report flat misc p6 wrong", 0, reported(0, 0, 0, 0, 0, "1 1", "2 1", "10 1", "11 1")),
+    Case("report p2 p2 p2 p2 p2", 0, reported(5, 5, 20, 10, 12)),
+    Case("report p2 raws kinds", 0, reported(3, 10, 52, 6, 40)),
+    Case("report kinds raws p2", 0, reported(3, 10, 52, 6, 40)),
+    Case("report p6 p2 p6 kinds wrong none p6", 0, reported(2, 7, 28, 6, 40, "1 1", "10 3", "11 1")),
+    Case("report most too-much", 0, reported(2, 65534, 4294836224, 3, 2147549184)),
+    Case("report p2 p7 kinds --partition-length 12", 0, reported(2, 2, 8, 4, 12, "6 1")),
+    Case("report p2 --partition-length 11 p7 kinds", 0, reported(0, 0, 0, 0, 0, "6 3")),
+    Case("report --partition-length 0 nothing p2 none p6", 0, reported(1, 0, 0, 0, 0, "1 1", "6 2")),
+    Case("report --partition-length 18446744073709551615 -- p2 strange", 0, reported(2, 3, 12, 8, 32)),
+    Case("report --partition-length 1 p2 --partition-length 12", 0, reported(1, 1, 4, 2, 12)),
+    Case("report -- p2 p6", 0, reported(1, 1, 4, 2, 12, "10 1")),
+    Case("report", 2, ""),
+    Case("report --", 2, ""),
+    Case("report --partition-length 12", 2, ""),
+    Case("report p2 --partition-length", 2, ""),
+    Case("report p2 --partition-length -1", 2, ""),
+    Case("report p2 --partition-length 12x", 2, ""),
+    Case("report p2 --partition-length ''", 2, ""),
+    Case("report p2 --partition-length 18446744073709551616", 2, ""),
+    Case("report p2 --partition-length p7", 2, ""),
+    Case("report p2 --partition", 2, ""),
+    Case("report p2 --length 56", 2, ""),
+    Case("report p2 --limit 1", 2, ""),
+    Case("report p2 --map", 2, ""),
+    Case("report p2 --svg refused", 2, ""),
+    Case("report p2 --dry-run", 2, ""),
+    Case("report .", 2, ""),
+    Case("report p6 p2 /dev/null", 2, ""),
+    Case("report missing", 3, ""),
+    Case("report p6 p2 missing p7", 3, ""),
+    Case("report -", 3, ""),
+    Case("judge p2 12 --partition-length 12", 2, ""),
+    Case("list p2 --partition-length 12", 2, ""),
+    Case("judge p2 12 p2 12 p2 12", 2, ""),
+    Case("list p2 p2 p2 p2 p2", 2, ""),
+    Case("join p2 p7 refused refused refused refused", 2, ""),
+    Case("slots record start a b c d", 2, ""),
     Case("write flat 8 image", 0, "ok bytes 64"),
     Case("write none 4096 small", 0, "ok bytes 28"),
     Case("write flat 0 refused", 1, "refused 5 at 0"),
@@ -731,6 +781,8 @@ def closed_descriptors(tool: Tool) -> None:
             save("tried", TRIED)
             done = tool.run(words, closed)
             expect(done.returncode == ends and read("tried") == record_of("10002"), f"{words} with {closed}", done)
+        expect(tool.run("report p6 p2 p6", closed).returncode == status, f"a report with {closed}")
+        expect(read("p2") == FILES["p2"] and read("p6") == FILES["p6"], f"the images of a report with {closed}")
 
 
 def printed_into_files(tool: Tool) -> None:
@@ -744,6 +796,7 @@ def printed_into_files(tool: Tool) -> None:
     for words, name in (("list p2", "p2"), ("diff p2 p7", "p2"), ("diff p2 p7", "p7"), ("diff p2 p7 --svg p6", "p6"),
                         ("join p2 p7 p6", "p2"), ("join p2 p7 p6", "p7"), ("join p2 p7 p6", "p6"),
                         ("rules boot", "boot"), ("rules boot 12 plain", "boot"),
+                        ("report p2 p7", "p2"), ("report p2 p6 p7", "p7"),
                         ("slots tried show", "tried"), ("slots tried start", "tried"),
                         (START, "tried"), (START, "lined"), (START, "misc"),
                         ("write flat 8 p6", "p6"), ("judge - 12 --length 56 <p2", "p2"),
@@ -751,6 +804,9 @@ def printed_into_files(tool: Tool) -> None:
         before = read(name)
         expect_end(tool.run(words, f">>{name}"), 2, "print it elsewhere")
         expect(read(name) == before, f"{words} >>{name}")
+    for words, out in itertools.product(("report p6 p2", "report p6 p7 p2 --json"), (">>p2", "2>>p2", ">>p2 2>&1")):
+        expect(tool.run(words, out).returncode == 2, f"{words} {out}: the status")
+        expect(read("p2") == FILES["p2"], f"{words} {out}: an image that comes after one that is refused")
 
 
 def device_node(path: str, kind: int) -> str:
@@ -805,6 +861,8 @@ def block_devices(tool: Tool) -> None:
         expect_end(tool.run(f"store image {device}"), 3, "busy")
         os.close(held)
         expect_end(tool.run(f"store {device} {device}"), 2)
+        done = tool.run(f"report {device} p2 {node}")
+        expect(done.stdout == reported(1, 1, 4, 2, 12, "2 2") + "\n", "a report on block devices", done)
         done = tool.run(f"store image {device}")
         expect(done.stdout == "ok written 2 skipped 5 unknown 1\n", "a block device is stored on", done)
         expect(done.stderr == remarks_on(image), "what is remarked", done)
@@ -876,6 +934,10 @@ def locks(tool: Tool) -> None:
             expect_end(tool.run("join p7 p2 image"), status)
             expect_end(tool.run("join p7 p7 p2"), 3, "is busy")
             expect_end(tool.run("write flat 8 p2"), 3, "is busy")
+            for words in ("report p2 p7", "report p7 p2", "report p6 p7 p2"):
+                done = tool.run(words)
+                expect_end(done, status, "p2: is busy" if status else "")
+                expect(bool(done.stdout) == (status == 0), f"{words}: totals", done)
         with locked("boot", kind):
             for words in ("sections boot", "rules boot", "rules boot 12 plain"):
                 expect_end(tool.run(words), status)
@@ -946,7 +1008,8 @@ def changed_image(tool: Tool) -> None:
     for words in ("judge p2 12", "judge p6 12", "list p2", "map p2", "sections p2", "store p2 cut --dry-run",
                   "store p6 cut --dry-run", "write p2 4 image", "store p2 cut", "store p6 cut", "diff p2 p7",
                   "diff p6 p7", "join p2 p7 image", "join p6 p7 image", "rules boot", "rules p2", "rules boot 12 plain",
-                  "rules boot 12 generic", "rules boot 10 generic", "rules boot4-os 13 generic", "rules p2 12 plain"):
+                  "rules boot 12 generic", "rules boot 10 generic", "rules boot4-os 13 generic", "rules p2 12 plain",
+                  "report p2", "report p6", "report p2 p7 p6"):
         name = words.split()[1]
         save(name, FILES[name])
         expect_end(tool.run(words, GROW=name), 3, "changed while it was")
@@ -957,6 +1020,16 @@ def changed_image(tool: Tool) -> None:
     for words in ("rules boot", "rules boot 12 plain", "rules boot 12 generic"):
         save("boot", FILES["boot"])
         expect_end(tool.run(words, CUT="boot"), 3, "to its end")
+    for name, fault, said in (("p2", "GROW", "p2: changed while it was read"), ("kinds", "CUT", "to its end"),
+                              ("p6", "GROW", "p6: changed while it was read")):
+        save(name, FILES[name])
+        done = tool.run(f"report {name} p7 {name}", **{fault: name})
+        expect_end(done, 3, said)
+        expect(done.stdout == "" and "refused" not in done.stderr, "a report on a changed image", done)
+        save(name, FILES[name])
+        told = json.loads(tool.run(f"report {name} p7 --json", **{fault: name}).stdout)
+        expect((told["result"], told["images"]) == ("failed", []) and "accepted" not in told, f"the object {told}")
+        save(name, FILES[name])
     expect(not os.path.exists("image"), "an image is made of changed ones")
 
 
@@ -1024,6 +1097,7 @@ def pipes_as_images(tool: Tool) -> None:
     for words in ("judge pipe 12", "store pipe cut", "store pipe cut --dry-run", "list pipe", "map pipe",
                   "sections pipe", "write pipe 4096 image", "slots pipe show", "judge /dev/stdin 12",
                   "diff pipe p2", "diff p2 pipe", "join pipe p2 image", "join p2 pipe image", "rules pipe",
+                  "report pipe", "report p2 p6 pipe", "report p2 /dev/stdin",
                   "rules pipe 12 plain", START.replace("lined", "pipe"), START.replace("misc misc", "misc pipe"),
                   START.replace("misc misc", "misc .")):
         expect_end(tool.run(words, "</dev/null" if "stdin" in words else ""), 2)
@@ -1435,6 +1509,15 @@ class Screen:
                 rows[-1] = rows[-1][:column] + sign + rows[-1][column + 1:]
             column = column + 1 if sign not in "\r\n" else 0
         return "\n".join(row.rstrip() for row in rows)
+
+    def show(self, tool: Tool, words: str, shell: str = "") -> "subprocess.CompletedProcess[str]":
+        """Runs the tool to its end with standard output there too; what then stands there counts as that."""
+        process = subprocess.Popen(tool.command(words, shell), env=tool.environment(), stdout=self.tools_end,
+                                   stderr=self.tools_end)
+        os.close(self.tools_end)
+        done = self.finish(process)
+        done.stdout, done.stderr = done.stderr, ""
+        return done
 
 
 BYTES_DONE = r"\r{} {} B of 56 B, [0-9.]+ (?:Ki)?B/s, (?:[0-9]+ s|unknown time) left *"
@@ -1866,6 +1949,229 @@ def joined_over_links(tool: Tool) -> None:
     os.symlink("p7", "soft")
     expect_end(tool.run("join p7 p8 soft"), 2, "an image and OUT are one file: name another")
     expect(read("p2") == FILES["p2"] and read("p7") == FILES["p7"], "images under other names")
+
+
+# Any number of images added up.
+
+# The length of a partition for which no image gets 6.
+NO_LIMIT = 2**64 - 1
+
+# What README.md and the man page show a report on.
+SHOWN = (
+    build.sparse_image(4096, [build.fill(b"tarp", 100), build.skip(28)]),
+    build.sparse_image(4096, [build.raw(bytes(range(256)) * 32, 4096), build.unknown(7, 2), build.fill(bytes(4), 60)]),
+    build.sparse_image(4096, [build.fill(b"tarp", 300)]),
+    build.two_chunks(checksum=1),
+    build.sparse_image(4096, [build.fill(b"lark", 7)], checksum=1),
+)
+
+# For each refusal number of an image one that gets it, and the length of its partition.
+ONE_EACH: Dict[int, Tuple[bytes, int]] = {
+    1: (b"", 0),
+    2: (build.sparse_image(4, PLANS, magic=1), 40),
+    3: (build.sparse_image(4, PLANS, major=2), 40),
+    4: (build.sparse_image(4, PLANS, chunk_header_size=8), 40),
+    5: (build.sparse_image(6, [build.fill(b"word", 1)]), 40),
+    6: (ALL_KINDS, 39),
+    7: (ALL_KINDS[:-1], 40),
+    8: (build.sparse_image(4, [build.skip(1)._replace(total_size=16)]), 40),
+    9: (build.sparse_image(4, PLANS, total_blocks=9), 40),
+    10: (ALL_KINDS + b"more", 40),
+    11: (build.sparse_image(4, PLANS, checksum=1), 40),
+}
+
+
+def report_on(images: Sequence[bytes], room: int = NO_LIMIT) -> report.Report:
+    """The report of images from the empty one on, by the reference."""
+    found = report.EMPTY
+    for image in images:
+        number, found = report.count(found, image, room)
+        expect(number == 0, f"the reference refuses with {number}")
+    return found
+
+
+def meaning_of(tool: Tool, number: int) -> str:
+    """What a refusal number that an image may get means, in the words of `judge`."""
+    image, room = ONE_EACH[number]
+    save("refused", image)
+    done = tool.run(f"judge refused {room}")
+    expect(done.returncode == 1 and done.stderr.startswith(f"refused {number} at "), f"{number}", done)
+    return done.stderr.split("\n")[1]
+
+
+def refusals_told(names: Sequence[str], room: int) -> List[Tuple[str, int]]:
+    """Those of the files that are refused, and the number of each."""
+    verdicts = [(name, sparse.judge(read(name), room)) for name in names]
+    return [(name, verdict.number) for name, verdict in verdicts if isinstance(verdict, sparse.Refusal)]
+
+
+def expect_report(tool: Tool, names: Sequence[str], room: Optional[int] = None) -> report.Report:
+    """What is said of files: the totals of the reference, and each image that is refused; in text and as an object."""
+    words = " ".join(["report", *names] + ([] if room is None else ["--partition-length", str(room)]))
+    limit = NO_LIMIT if room is None else room
+    want, refused = report_on([read(name) for name in names], limit), refusals_told(names, limit)
+    done = tool.run(words)
+    expect(done.returncode == 0 and done.stdout == report.text(want), f"{words}: {want} expected", done)
+    lines = [line.split(": ", 3) for line in done.stderr.splitlines()]
+    expect([line[:3] for line in lines] == [["tarpaulark", name, f"refused {number}"] for name, number in refused],
+           f"{words}: {refused} expected", done)
+    told = json.loads(tool.run(f"{words} --json").stdout, object_pairs_hook=members)
+    totals = [told[name] for name in ("accepted", "blocks", "bytes", "skipped", "largest")]
+    expect(totals == list(want[:5]) and told["status"] == 0, f"{words}: {told}")
+    expect([(one["name"], one["number"]) for one in told["images"]] == refused, f"{words}: {told}")
+    expect([one["meaning"] for one in told["images"]] == [line[3] for line in lines], f"{words}: {told}")
+    counts = [(number, count) for number, count in zip(report.REFUSALS, want.refused) if count]
+    expect([(one["number"], one["count"]) for one in told["refused"]] == counts, f"{words}: {told}")
+    return want
+
+
+def reported_as_the_reference(tool: Tool) -> None:
+    """Reports on random images and refused ones are those of the reference; in any order, and from halves added up."""
+    rng = random.Random(16)
+    images = [*cases_store.refused_images(41), *FILES.values(), *(cases_store.random_image(rng) for _ in range(12))]
+    for i, image in enumerate(images):
+        save(f"i{i}", image)
+    for room in (None, None, 41, 12, rng.randrange(1000), 2**32):
+        names = [f"i{rng.randrange(len(images))}" for _ in range(rng.randrange(1, 30))]
+        cut = rng.randrange(1, len(names)) if len(names) > 1 else 1
+        halves = [expect_report(tool, half, room) for half in (names[:cut], names[cut:]) if half]
+        whole = expect_report(tool, rng.sample(names, len(names)), room)
+        expect(whole == (report.add(*halves).report if len(halves) == 2 else halves[0]), f"halves of {names}")
+
+
+def each_refusal_reported(tool: Tool) -> None:
+    """Each refusal number is counted and told in the words that `judge` has for it."""
+    for number in report.REFUSALS:
+        meaning = meaning_of(tool, number)
+        words = f"report refused p2 refused --partition-length {max(12, ONE_EACH[number][1])}"
+        done = tool.run(words)
+        expect(done.stdout == reported(1, 1, 4, 2, 12, f"{number} 2") + "\n", words, done)
+        expect(done.stderr == f"tarpaulark: refused: refused {number}: {meaning}\n" * 2, words, done)
+        told = json.loads(tool.run(f"{words} --json").stdout)
+        expect(told["refused"] == [{"number": number, "count": 2, "meaning": meaning}], f"{number}: {told}")
+        expect(told["images"] == [{"name": "refused", "number": number, "meaning": meaning}] * 2, f"{number}: {told}")
+    done = tool.run("report p6 p2 p6", "2>&1")
+    line = "tarpaulark: p6: refused 10: bytes remain after the last chunk\n"
+    expect(done.stdout == line * 2 + reported(1, 1, 4, 2, 12, "10 2") + "\n", "the totals come last", done)
+
+
+def nothing_remarked(tool: Tool) -> None:
+    """Of images without a checksum, and of unknown chunks, a report says nothing."""
+    for name in ("p7", "p8", "unsummed", "strange", "hollow"):
+        done = tool.run(f"report {name}")
+        expect(done.returncode == 0 and done.stderr == "", name, done)
+        told = json.loads(tool.run(f"report {name} --json").stdout)
+        expect(set(told) == {"command", "images", "accepted", "blocks", "bytes", "skipped", "largest", "refused",
+                             "result", "status"}, f"{name}: {told}")
+
+
+def drawn(tool: Tool, counts: Dict[int, int]) -> List[str]:
+    """The lines of refusal numbers on a terminal, by the counts: beginning, bar and meaning in columns; a meaning goes
+    on below where its line is full."""
+    heads = {number: f"refused {number} {count}" for number, count in counts.items()}
+    width, lines = max(map(len, heads.values())), []
+    for number, count in counts.items():
+        bar = "#" * -(-20 * count // max(counts.values()))
+        left, rows = meaning_of(tool, number).split(" "), []
+        while left:
+            taken = max(n for n in range(1, len(left) + 1) if n == 1 or width + 24 + len(" ".join(left[:n])) < 80)
+            rows.append(" ".join(left[:taken]))
+            left = left[taken:]
+        lines.append(f"{heads[number]:{width}}  {bar:20}  {rows[0]}")
+        lines += [" " * (width + 24) + row for row in rows[1:]]
+    return lines
+
+
+def bars_on_terminals(tool: Tool) -> None:
+    """Where standard output is a terminal, a bar and the meaning follow each refusal number, in columns that fit;
+    elsewhere, and in an object, nothing does."""
+    for number, (image, _) in ONE_EACH.items():
+        save(f"r{number}", image)
+    for counts in ({10: 1}, {1: 1, 11: 1}, {number: number for number in ONE_EACH if number != 6}, {2: 1, 4: 200},
+                   {7: 99, 8: 100, 9: 5, 11: 6}, {3: 1, 4: 1500, 5: 75, 7: 76}):
+        names = " ".join(name for number, count in counts.items() for name in [f"r{number}"] * count)
+        totals = reported(1, 1, 4, 2, 12).split("\n")
+        done = Screen().show(tool, f"report p2 {names}", "2>/dev/null")
+        rows = done.stdout.split("\n")
+        expect(done.returncode == 0 and rows == totals + drawn(tool, counts) + [""], f"{counts}", done)
+        expect(max(map(len, rows)) < 80, f"{counts}: lines that are too long", done)
+        plain = tool.run(f"report p2 {names}").stdout.rstrip("\n").split("\n")
+        expect([re.sub("  .*", "", row) for row in rows if row and row[0] != " "] == plain, f"{counts}: {plain}", done)
+        expect(plain[5:] == [f"refused {number} {count}" for number, count in counts.items()], f"{counts}: {plain}")
+    told = json.loads(Screen().show(tool, "report p2 p6 --json").stdout)
+    expect(told == json.loads(tool.run("report p2 p6 --json").stdout), f"an object on a terminal, {told}")
+    expect(Screen().show(tool, "report p2", "2>/dev/null").stdout == reported(1, 1, 4, 2, 12) + "\n", "nothing refused")
+    screen = Screen()
+    done = screen.finish(screen.begin(tool, "report p2 p6"))
+    expect(done.stdout == reported(1, 1, 4, 2, 12, "10 1") + "\n", "only standard error is a terminal", done)
+    expect(done.stderr == tool.run("report p2 p6").stderr, "what is said there", done)
+
+
+def example_of_a_report(tool: Tool) -> None:
+    """What README.md and the man page show of a report is what a terminal shows."""
+    for number, image in enumerate(SHOWN, 1):
+        save(f"{number}.simg", image)
+    words, lines = examples_in_readme()[0]
+    done = Screen(90).show(tool, words)
+    expect(done.stdout == lines, f"{words}: {lines}", done)
+    man = read(os.path.join(ROOT, "host", "tarpaulark.1")).decode("ascii").replace("\\-", "-")
+    expect(f".nf\n$ tarpaulark {words}\n{lines}.fi\n" in man, "the man page shows something else")
+
+
+def many_images(tool: Tool) -> None:
+    """More images than files may be open, by their own names and by one."""
+    os.mkdir("many")
+    for i in range(2000):
+        save(f"many/{i}", FILES["p6" if i % 5 == 0 else "kinds"])
+    done = run_limited("ulimit -n 16;", tool, "report many/* " + "p2 " * 1000)
+    expect(done.stdout == reported(2600, 10600, 42400, 8400, 40, "10 400") + "\n", "thousands of images", done)
+    expect(len(done.stderr.splitlines()) == 400 and done.returncode == 0, "what is said of them", done)
+
+
+def totals_that_pass(tool: Tool) -> None:
+    """A total takes what 64 bits hold, and one byte more is refused with 61, at the image that brings it."""
+    save("v", build.sparse_image(65536, [build.fill(b"vast", 2**32 - 1)], checksum=0))
+    save("f", build.sparse_image(65536, [build.fill(b"fits", 65535)], checksum=0))
+    save("b", build.sparse_image(4, [build.fill(b"byte", 16383)], checksum=0))
+    save("p", build.sparse_image(4, [build.fill(b"past", 1)], checksum=0))
+    full = reported(65539, 65536 * (2**32 - 1) + 65535 + 16383, 2**64 - 4, 3, 65536 * (2**32 - 1), "10 1") + "\n"
+    refused = "tarpaulark: p6: refused 10: bytes remain after the last chunk\n"
+    passes = "refused 61 at 0\na total would pass 64 bits: report on fewer images at a time\nin counting p\n"
+    for more, outcome in ((("p6", "gaps"), (0, full, refused)), (("p6", "p", "p2"), (1, "", refused + passes))):
+        names = [name.encode() for name in ("v",) * 65536 + ("f", "b") + more]
+        try:
+            done = tool.run_bytes(b"report", *names)
+        except OSError as reason:
+            raise CannotCheck("no room for so many words") from reason
+        expect((done.returncode, done.stdout.decode(), done.stderr.decode()) == outcome, f"{more}", done)
+    told = json.loads(tool.run_bytes(b"report", *names, b"--json").stdout)
+    expect((told["number"], told["name"], told["status"]) == (61, "p", 1) and "accepted" not in told, f"{told}")
+    expect([one["name"] for one in told["images"]] == ["p6"], f"{told}")
+
+
+def positions_in_reports(_tool: Tool) -> None:
+    """The header has the numbers of a report where the reference has them."""
+    header = read(os.path.join(ROOT, "include", "tarpaulark.h")).decode("ascii")
+    numbers = {name: int(number) for name, number in re.findall(r"TARPAULARK_(\w+)(?: =)? ([0-9]+)", header)}
+    names = ("ACCEPTED", "BLOCKS", "BYTES", "SKIPPED", "LARGEST", "REFUSED")
+    expect([numbers[f"REPORT_{name}"] for name in names] == list(range(len(report.EMPTY))), "positions in a report")
+    expect(numbers["REPORT"] == len(report.EMPTY) - 1 + len(report.REFUSALS), "numbers of a report")
+    expect(numbers["BAD_REPORT"] == report.add(report.EMPTY._replace(accepted=2**64 - 1),
+                                               report.EMPTY._replace(accepted=1)).number, "the refusal of a report")
+    table = [f"at {i} " for i in range(5)] + [f"at 5 to {numbers['REPORT'] - 1} "]
+    expect([row for row in table if f" *    {row}" not in header] == [], "the table of a report")
+
+
+def names_in_reports(tool: Tool) -> None:
+    """What is said of a refused image is whole whatever it is called, and steers no terminal."""
+    for name in ODD_NAMES:
+        with open(name, "wb") as file:
+            file.write(FILES["p6"])
+        done = tool.run_bytes(b"report", name, b"p2", name)
+        controls = re.findall("[\0-\x1f\x7f-\x9f]", done.stderr.decode("utf-8"))
+        expect(done.returncode == 0 and controls == ["\n"] * 2, f"a refusal of {name!r}", done)
+        told = json.loads(tool.run_bytes(b"report", name, b"--json").stdout.decode("utf-8"))
+        expect((told["images"][0]["name"], told["status"]) == (as_text(name), 0), f"{name!r}: {told}")
 
 
 # Boot images.
@@ -2614,24 +2920,29 @@ def started_from_devices(tool: Tool) -> None:
         expect(read("tried") == record_of("10002"), "the record")
 
 
-def example_in_readme(tool: Tool) -> None:
-    """What README.md shows of a start is what the tool prints."""
+def examples_in_readme() -> List[Tuple[str, str]]:
+    """Words after the tool's name that README.md has, and what it shows for them."""
     readme = read(os.path.join(ROOT, "README.md")).decode("utf-8")
     shown = re.findall(r"^    \$ tarpaulark (.*)\n((?:    (?!\$).*\n)+)", readme, re.MULTILINE)
-    expect([words.split()[0] for words, _ in shown] == ["slots", "start"], f"{shown}")
+    expect([words.split()[0] for words, _ in shown] == ["report", "slots", "start"], f"{shown}")
+    return [(words, re.sub("(?m)^    ", "", lines)) for words, lines in shown]
+
+
+def example_in_readme(tool: Tool) -> None:
+    """What README.md shows of a start is what the tool prints."""
     for name in "ab":
         save(f"boot_{name}.img", lined(3, b"printk.devkmsg=on"))
     save("misc.img", MISC)
-    for words, lines in shown:
+    for words, lines in examples_in_readme()[1:]:
         done = tool.run(words)
-        expect(done.stdout == re.sub("(?m)^    ", "", lines) and not done.stderr, words, done)
+        expect(done.stdout == lines and not done.stderr, words, done)
 
 
 # What people look for.
 
 def help_and_version(tool: Tool) -> None:
     """Help and version go to standard output."""
-    for words in ("--help", "-h", "store --help", "slots -h", "rules --help", "start --help"):
+    for words in ("--help", "-h", "store --help", "slots -h", "rules --help", "report --help", "start --help"):
         done = tool.run(words)
         expect(done.returncode == 0 and "Exit status: 0 done" in done.stdout and not done.stderr, words, done)
     header = read(os.path.join(ROOT, "include", "tarpaulark.h")).decode("ascii")
@@ -2657,7 +2968,7 @@ def same_words(tool: Tool) -> None:
     told = tool.run("--help").stdout
     usages = re.findall(r"^ *(?:usage:)? tarpaulark (.*)$", told, re.MULTILINE)
     statuses = re.findall(r"^(?:Exit status:)? +([0-4]) (.*)$", told, re.MULTILINE)
-    expect(len(usages) == 17 and len(statuses) == 5, f"the help {told}")
+    expect(len(usages) == 18 and len(statuses) == 5, f"the help {told}")
     man = text_of_man(read(os.path.join(ROOT, "host", "tarpaulark.1")).decode("ascii"))
     readme = read(os.path.join(ROOT, "README.md")).decode("utf-8")
     for usage in usages:
@@ -2670,7 +2981,7 @@ def same_words(tool: Tool) -> None:
         expect(f"{number} {words}.".replace("`", "").lower() in man.lower(), f"the man page lacks {words}")
         expect(f"| {number} | {words} |" in readme, f"README.md lacks {words}")
     for option in ("--json", "-h", "--help", "--version", "--limit", "--length", "--dry-run", "--map", "--svg",
-                   "--image", "--misc", "--line", "--"):
+                   "--partition-length", "--image", "--misc", "--line", "--"):
         for name, text in (("the help", told), ("the man page", man), ("README.md", readme.replace("`", " "))):
             expect(re.search(rf"(?<![\w-]){option}(?![\w-])", text) is not None, f"{name} lacks {option}")
 
@@ -2685,7 +2996,7 @@ def not_printed(tool: Tool) -> None:
     expect_end(tool.run("list p2 --json", ">/dev/full"), 4)
     for more in ("", " --json", " --map"):
         expect_end(tool.run(f"diff last next{more}", ">/dev/full"), 4)
-    for words in ("rules boot", "rules boot --json", "rules boot 12 plain"):
+    for words in ("rules boot", "rules boot --json", "rules boot 12 plain", "report p2 p6", "report p2 p6 --json"):
         expect_end(tool.run(words, ">/dev/full"), 4)
     expect_end(tool.run("join last next image", ">/dev/full"), 4, "what was asked is done")
     expect(read("image") == JOINED, "what was asked of join")
@@ -2729,6 +3040,7 @@ def same_in_json(tool: Tool) -> None:
                   "sections archived", "sections archived-cut", "rules boot0", "rules archived", "rules boot4-os",
                   "rules archived-cut", "rules boot 12 plain", "rules archived 10 plain", "rules boot 12 generic",
                   "rules boot4-os 13 generic", "rules boot 14 plain",
+                  "report p2", "report none", "report p6 p2 kinds wrong p6 strange --partition-length 32",
                   "slots tried show", "slots odd show", "slots old17 show", "slots old21 show", "slots tried status",
                   "slots miscounted status", "slots tried corrupted a", "slots tried fresh 5", "slots tried fresh 3",
                   start, start.replace("lined", "archived-cut"), start.replace("misc misc", "misc misc-short"),
@@ -2747,6 +3059,8 @@ def same_in_json(tool: Tool) -> None:
         expect(not missing, f"{words}: the object lacks {missing}", told)
     for words, status in (("judge missing 1 --json", 3), ("judge --json", 2), ("--json", 2), ("x --json", 2),
                           ("rules boot 12 --json", 2), ("rules boot x plain --json", 2), ("rules missing --json", 3),
+                          ("report --json", 2), ("report p2 --partition-length --json", 2), ("report . --json", 2),
+                          ("report p6 missing --json", 3),
                           ("start tried --json", 2), (f"{BOTH} start tried --misc misc --line --json", 2),
                           (f"start missing {BOTH} --misc misc --line quiet --json", 3)):
         told = tool.run(words)
@@ -2888,6 +3202,8 @@ CHECKS: Tuple[Callable[[Tool], None], ...] = (
     compared_in_svg, compared_at_length, no_memory,
     joined_as_the_reference, joined_in_groups, joins_refused, told_of_geometry, joined_vast, joined_at_length,
     joined_in_little_room, unknown_joined, joined_over_links,
+    reported_as_the_reference, each_refusal_reported, nothing_remarked, bars_on_terminals, example_of_a_report,
+    many_images, totals_that_pass, positions_in_reports, names_in_reports,
     retired_sections, rules_as_the_reference, asked_as_the_reference, same_table,
     slot_turns, flags_shown, states_in_words, counts_in_words, wrong_counts, old_records, other_lengths, old_made_new,
     old_of_any_bytes,

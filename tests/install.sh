@@ -24,7 +24,10 @@ grep -q "tarpaulark $version" "$root/share/man/man1/tarpaulark.1" || die "the ma
 # active and confirmed, and a corrupted: their bytes, the current slot and the count stand where the header says, the
 # count last, and nothing past the record is touched; with another count it is refused. Two images are written and
 # compared: the runs, of a block and of two, stand where the header says. Joined they are the second, whose blocks are all
-# written, with its length where the header says; a byte less is too short, and nothing past it is touched. A boot image
+# written, with its length where the header says; a byte less is too short, and nothing past it is touched. A report
+# counts both for a partition with room, one for a partition without, and an image that is too short, where the header
+# says; added to itself it has twice that, but the largest once, and nothing past it is touched; where a total would pass
+# 64 bits it stays as it was, in counting and in adding, and so does the other one. A boot image
 # of version 2 has its sections where the header says, and last whether a retired one is present, with and without one;
 # nothing past the answer is touched, and an input that is too short is refused. Of the launch releases only 10 takes it,
 # with the plain kernel, and answers the same; of version 4 the last one takes it with the generic kernel where the os
@@ -87,6 +90,60 @@ static int use_join(const uint8_t *first, size_t first_len, const uint8_t *secon
     return i != second_len || out[i] != 0;
 }
 
+/* A report whose numbers are, in their order, these times a factor, but the largest once; 77 stands after it. */
+static int holds(const uint64_t *report, const uint64_t *numbers, uint64_t factor)
+{
+    size_t i;
+
+    for (i = 0; i < TARPAULARK_REPORT; i++)
+        if (report[i] != numbers[i] * (i == TARPAULARK_REPORT_LARGEST ? 1 : factor))
+            return 0;
+    return report[TARPAULARK_REPORT] == 77;
+}
+
+/* A report in which one total is full: counting an image that adds to it, and adding 1 to it, are refused. */
+static int passes(uint64_t *report, size_t full, const uint8_t *image, size_t length)
+{
+    static uint64_t other[TARPAULARK_REPORT];
+    const uint64_t kept = report[full];
+    int is_refused;
+
+    other[full] = 1;
+    report[full] = UINT64_MAX;
+    is_refused = tarpaulark_report_count(report, image, length, 12) == TARPAULARK_BAD_REPORT
+        && tarpaulark_report_add(report, other) == TARPAULARK_BAD_REPORT && report[full] == UINT64_MAX
+        && other[full] == 1;
+    report[full] = kept;
+    other[full] = 0;
+    return is_refused;
+}
+
+static int use_report(const uint8_t *first, size_t first_len, const uint8_t *second, size_t second_len)
+{
+    static const uint64_t numbers[TARPAULARK_REPORT] = {2, 6, 24, 0, 12, 1, 0, 0, 0, 0, 1};
+    static uint64_t report[TARPAULARK_REPORT + 1], other[TARPAULARK_REPORT + 1];
+    size_t i;
+
+    report[TARPAULARK_REPORT] = 77;
+    if (tarpaulark_report_count(report, first, first_len, 12) != 0
+        || tarpaulark_report_count(report, second, second_len, UINT64_MAX) != 0
+        || tarpaulark_report_count(report, second, second_len, 11) != 0
+        || tarpaulark_report_count(report, first, 27, 12) != 0 || !holds(report, numbers, 1)
+        || report[TARPAULARK_REPORT_ACCEPTED] != 2 || report[TARPAULARK_REPORT_BLOCKS] != 6
+        || report[TARPAULARK_REPORT_BYTES] != 24 || report[TARPAULARK_REPORT_SKIPPED] != 0
+        || report[TARPAULARK_REPORT_REFUSED + TARPAULARK_BAD_ROOM - 1] != 1)
+        return 1;
+    for (i = 0; i <= TARPAULARK_REPORT; i++)
+        other[i] = report[i];
+    if (tarpaulark_report_add(report, other) != 0 || !holds(report, numbers, 2) || !holds(other, numbers, 1))
+        return 1;
+    return !passes(report, TARPAULARK_REPORT_ACCEPTED, first, first_len)
+        || !passes(report, TARPAULARK_REPORT_BYTES, first, first_len)
+        || !passes(report, TARPAULARK_REPORT_REFUSED + TARPAULARK_BAD_LENGTH - 1, first, 27)
+        || passes(report, TARPAULARK_REPORT_SKIPPED, first, first_len)
+        || passes(report, TARPAULARK_REPORT_LARGEST, first, first_len);
+}
+
 static int use_images(void)
 {
     static const uint8_t first[] = "same" "old1" "old2", second[] = "same" "new1" "new2";
@@ -103,7 +160,8 @@ static int use_images(void)
     return answer[TARPAULARK_IMAGE] != 0 || answer[TARPAULARK_RUNS] != 2
         || runs[TARPAULARK_RUN_KIND] != TARPAULARK_EQUAL || last[TARPAULARK_RUN_FIRST] != 1
         || last[TARPAULARK_RUN_BLOCKS] != 2 || last[TARPAULARK_RUN_KIND] != TARPAULARK_DIFFERENT
-        || use_join(images[0], lengths[0][TARPAULARK_LENGTH], images[1], lengths[1][TARPAULARK_LENGTH]);
+        || use_join(images[0], lengths[0][TARPAULARK_LENGTH], images[1], lengths[1][TARPAULARK_LENGTH])
+        || use_report(images[0], lengths[0][TARPAULARK_LENGTH], images[1], lengths[1][TARPAULARK_LENGTH]);
 }
 
 static int stands(const uint64_t *answer, uint64_t present, uint64_t position, uint64_t size)

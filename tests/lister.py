@@ -22,7 +22,6 @@ import cases_store
 import lister
 import programs
 from build import ChunkPlan
-from programs import Test
 
 SEED = 20240902
 DEFAULT_PROGRAM = os.path.join("target", "bin", "simg_list")
@@ -118,4 +117,5 @@ def slow_inputs() -> List[bytes]:
 
 
 if __name__ == "__main__":
-    sys.exit(programs.run(Test("lister", DEFAULT_PROGRAM, lister.listing, inputs, slow_inputs)))
+    TEST = programs.on_input("lister", DEFAULT_PROGRAM, lister.listing, inputs, slow_inputs)
+    sys.exit(programs.run(TEST))

@@ -142,6 +142,23 @@ try_theirs() {
     [ $has_simg2img = 0 ] || expect agrees "simg2img of img2simg's image, $1" stored_as_made "$1.theirs" "$length"
 }
 
+# The report on img2simg's images of flat files of one block size adds up the files: all blocks are written, none is
+# skipped. For a partition of a byte less than 64 blocks have, only the one of no bytes is accepted.
+reported_as_flat() {
+    local block=$1 flat bytes=0 length largest=0 images=()
+    shift
+    for flat in "$@"; do
+        length=$(stat -c %s "$flat")
+        bytes=$((bytes + length))
+        [ "$length" -le "$largest" ] || largest=$length
+        images+=("$flat.theirs")
+    done
+    printf '%s\n' "accepted $#" "blocks $((bytes / block))" "bytes $bytes" 'skipped 0' "largest $largest" >wanted
+    "$tool" report "${images[@]}" >said && diff wanted said || return 1
+    printf '%s\n' 'accepted 1' 'blocks 0' 'bytes 0' 'skipped 0' 'largest 0' "refused 6 $(($# - 1))" >wanted
+    "$tool" report "${images[@]}" --partition-length $((64 * block - 1)) >said && diff wanted said
+}
+
 # The runs between img2simg's images of two flat files of one length are those of their blocks: equal or different.
 told_as_flat() {
     "$tool" diff "$1.theirs" "$2.theirs" --json | python3 -c '
@@ -340,6 +357,8 @@ if [ $((has_simg2img + has_img2simg)) -gt 0 ]; then
         [ $has_img2simg = 0 ] || [ "$block" -lt 1024 ] || for flat in random fill mixed; do
             expect agrees "diff of img2simg's images, $flat and mixed, $block" told_as_flat "$flat.$block" "mixed.$block" "$block"
         done
+        [ $has_img2simg = 0 ] || [ "$block" -lt 1024 ] || expect agrees "report on img2simg's images, $block" \
+            reported_as_flat "$block" {empty,random,fill,mixed}."$block"
     done
 fi
 

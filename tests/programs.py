@@ -1,10 +1,12 @@
-"""Holds a built program, which reads an image from standard input, against the reference."""
+"""Holds a built program, which reads an image from standard input or files in a folder, against
+the reference."""
 
 import os
 import subprocess
 import sys
 import time
-from typing import Callable, List, NamedTuple, Optional, Sequence
+from functools import partial
+from typing import Callable, Iterator, List, NamedTuple, Optional, Sequence
 
 LONGEST_WAIT = 60
 SHOWN = 96
@@ -17,18 +19,26 @@ class Answer(NamedTuple):
     code: int
 
 
+class Trial(NamedTuple):
+    """A run of the program: what it is given, in words; the reference's text for that; and how
+    the program at a path is run."""
+
+    given: str
+    text: str
+    run: Callable[[str], Answer]
+
+
 class Test(NamedTuple):
-    """What is tested: its name, the program where none is given, the reference's text for an
-    input, and the makers of the inputs that are given at once and of those in pieces."""
+    """What is tested: its name, the program where none is given, what its runs are counted as,
+    and the maker of the runs."""
 
     name: str
     default_program: str
-    text: Callable[[bytes], str]
-    inputs: Callable[[], List[bytes]]
-    slow_inputs: Callable[[], List[bytes]]
+    noun: str
+    trials: Callable[[], Iterator[Trial]]
 
 
-def answer_at_once(program: str, image: bytes) -> Answer:
+def answer_at_once(image: bytes, program: str) -> Answer:
     """The program's answer when all its input is there at once."""
     done = subprocess.run(
         [program], input=image, stdout=subprocess.PIPE, timeout=LONGEST_WAIT, check=False
@@ -36,7 +46,7 @@ def answer_at_once(program: str, image: bytes) -> Answer:
     return Answer(done.stdout, done.returncode)
 
 
-def answer_in_pieces(program: str, pieces: Sequence[bytes]) -> Answer:
+def answer_in_pieces(pieces: Sequence[bytes], program: str) -> Answer:
     """The program's answer when its input comes in pieces, with a pause after each."""
     with subprocess.Popen([program], stdin=subprocess.PIPE, stdout=subprocess.PIPE) as process:
         assert process.stdin is not None
@@ -51,13 +61,28 @@ def answer_in_pieces(program: str, pieces: Sequence[bytes]) -> Answer:
         return Answer(output, process.returncode)
 
 
-def difference(test: Test, image: bytes, answer: Answer) -> Optional[str]:
+def answer_in_folder(folder: str, program: str) -> Answer:
+    """The program's answer when it is run in a folder.  Its standard input is a pipe into which
+    nothing ever comes, so it would not end if it read that."""
+    reading, writing = os.pipe()
+    try:
+        done = subprocess.run(
+            [program], cwd=folder, stdin=reading, stdout=subprocess.PIPE, timeout=LONGEST_WAIT,
+            check=False,
+        )
+    finally:
+        os.close(reading)
+        os.close(writing)
+    return Answer(done.stdout, done.returncode)
+
+
+def difference(trial: Trial, answer: Answer) -> Optional[str]:
     """What is wrong with an answer: another text, or an end by a signal."""
-    expected = test.text(image).encode("ascii")
+    expected = trial.text.encode("ascii")
     if answer.output == expected and answer.code >= 0:
         return None
     return "\n".join((
-        f"{test.name}: input of {len(image)} bytes, from {image[:SHOWN].hex()}",
+        trial.given,
         f"expected {expected[:SHOWN]!r} ({len(expected)} bytes)",
         f"found    {answer.output[:SHOWN]!r} ({len(answer.output)} bytes, code {answer.code})",
     ))
@@ -69,29 +94,41 @@ def in_pieces(image: bytes) -> List[bytes]:
     return [image[:1]] + [image[at:at + size] for at in range(1, len(image), size)]
 
 
-def first_fault(
-    test: Test, program: str, images: Sequence[bytes], slow: Sequence[bytes]
-) -> Optional[str]:
-    """The first difference, over inputs given at once, then over those in pieces."""
-    for image in images:
-        fault = difference(test, image, answer_at_once(program, image))
-        if fault is not None:
-            return fault
-    for image in slow:
-        fault = difference(test, image, answer_in_pieces(program, in_pieces(image)))
-        if fault is not None:
-            return fault
-    return None
+def shown(image: bytes) -> str:
+    """An input in words."""
+    return f"input of {len(image)} bytes, from {image[:SHOWN].hex()}"
+
+
+def on_input(
+    name: str,
+    default_program: str,
+    text: Callable[[bytes], str],
+    inputs: Callable[[], List[bytes]],
+    slow_inputs: Callable[[], List[bytes]],
+) -> Test:
+    """The test of a program that reads an image from standard input, by the reference's text for
+    an input and the makers of the inputs that are given at once and of those in pieces."""
+    def trials() -> Iterator[Trial]:
+        for image in inputs():
+            yield Trial(shown(image), text(image), partial(answer_at_once, image))
+        for image in slow_inputs():
+            yield Trial(shown(image), text(image), partial(answer_in_pieces, in_pieces(image)))
+    return Test(name, default_program, "inputs", trials)
 
 
 def run(test: Test) -> int:
-    """Runs the program that is named on the command line on all inputs; 1 at the first
+    """Makes all runs of the program that is named on the command line; 1 at the first
     difference."""
     program = os.path.abspath(sys.argv[1] if len(sys.argv) > 1 else test.default_program)
     if not os.access(program, os.X_OK):
         print(f"{test.name}: no program {program}")
         return 1
-    images, slow = test.inputs(), test.slow_inputs()
-    fault = first_fault(test, program, images, slow)
-    print(fault or f"{test.name}: {len(images) + len(slow)} inputs agree")
-    return 1 if fault else 0
+    count = 0
+    for trial in test.trials():
+        fault = difference(trial, trial.run(program))
+        if fault is not None:
+            print(f"{test.name}: {fault}")
+            return 1
+        count += 1
+    print(f"{test.name}: {count} {test.noun} agree")
+    return 0

@@ -23,7 +23,6 @@ import launch
 import programs
 from cases_boot import VERSIONS
 from cases_common import below, some_bytes
-from programs import Test
 
 SEED = 20240904
 DEFAULT_PROGRAM = os.path.join("target", "bin", "bootimg_releases")
@@ -95,4 +94,5 @@ def slow_inputs() -> List[bytes]:
 
 
 if __name__ == "__main__":
-    sys.exit(programs.run(Test("releases", DEFAULT_PROGRAM, launch.text, inputs, slow_inputs)))
+    TEST = programs.on_input("releases", DEFAULT_PROGRAM, launch.text, inputs, slow_inputs)
+    sys.exit(programs.run(TEST))

@@ -39,6 +39,7 @@ static size_t piece_at, piece_len, chunk_at;
 static uint32_t block = BLOCK, slot, release, kernel, number;
 static uint8_t misc[TARPAULARK_MISC], line[TARPAULARK_MOST_LINE], space[TARPAULARK_MOST_LINE];
 static size_t misc_len = sizeof misc, line_len = LINE, space_len = sizeof space;
+static uint64_t totals[TARPAULARK_REPORT], more_totals[TARPAULARK_REPORT];
 static uint64_t answer[TARPAULARK_START_ANSWER], met;
 
 static void got(uint32_t returned)
@@ -122,6 +123,16 @@ static void store_finish(void)
     got(tarpaulark_pass_store_finish(pass, partition, partition_len, answer));
 }
 
+static void report_count(void)
+{
+    got(tarpaulark_report_count(totals, image, image_len, sizeof partition));
+}
+
+static void report_add(void)
+{
+    got(tarpaulark_report_add(totals, more_totals));
+}
+
 static void locate(void)
 {
     got(tarpaulark_locate(image, image_len, answer));
@@ -199,6 +210,8 @@ static struct function {
     {"pass_judge_finish", judge_finish, true, 0},
     {"pass_store_piece", store_piece, true, 0},
     {"pass_store_finish", store_finish, true, 0},
+    {"report_count", report_count, false, 0},
+    {"report_add", report_add, false, 0},
     {"locate", locate, false, 0},
     {"locate_for", locate_for, false, 0},
     {"slots_valid", slots_valid, false, 0},
@@ -340,6 +353,7 @@ static void run_whole(void)
     measure(judge);
     measure(store);
     measure(store_limited);
+    measure(report_count);
     run_pair();
     measure(header);
     for (size_t i = 0; i < sizeof starts / sizeof starts[0]; i++) {
@@ -448,6 +462,43 @@ static void try_pairs(void)
     make_other(BLOCK / 2);
     make_image();
     run_pair();
+}
+
+/* Whether a call is refused because a total is full; the report is then as it was. */
+static bool is_too_much(void (*run)(void), size_t full)
+{
+    uint64_t before[TARPAULARK_REPORT];
+
+    memset(totals, 0, sizeof totals);
+    totals[full] = UINT64_MAX;
+    memcpy(before, totals, sizeof before);
+    measure(run);
+    expect(number == 0 || number == TARPAULARK_BAD_REPORT, "a report is refused with another number");
+    expect(number == 0 || memcmp(before, totals, sizeof before) == 0, "a report that is refused is changed");
+    return number != 0;
+}
+
+/* Each number of a report full in turn, the image accepted and then refused with 1; then reports of any numbers. */
+static void try_report(void)
+{
+    const size_t good = image_len;
+
+    for (size_t i = 0; i < TARPAULARK_REPORT; i++) {
+        image_len = good;
+        expect(is_too_much(report_count, i) == (i < TARPAULARK_REPORT_LARGEST), "an accepted image is counted wrongly");
+        image_len = 0;
+        expect(is_too_much(report_count, i) == (i == TARPAULARK_REPORT_REFUSED), "a refused image is counted wrongly");
+        memset(more_totals, 0, sizeof more_totals);
+        expect(!is_too_much(report_add, i), "an empty report is not added");
+        more_totals[i] = 1;
+        expect(is_too_much(report_add, i) == (i != TARPAULARK_REPORT_LARGEST), "a report is added wrongly");
+    }
+    for (size_t i = 0; i < 1000; i++) {
+        for (size_t j = 0; j < TARPAULARK_REPORT; j++)
+            totals[j] = more_totals[j] = (uint64_t)rand() << 33 >> rand() % 8;
+        measure(report_add);
+    }
+    image_len = good;
 }
 
 static void try_write(void)
@@ -659,7 +710,7 @@ static void try_start(void)
 /* Whether the calls got every refusal that the header names. */
 static bool all_met(void)
 {
-    static const uint8_t spans[][2] = {{0, 18}, {21, 27}, {31, 33}, {41, 43}, {51, 52}};
+    static const uint8_t spans[][2] = {{0, 18}, {21, 27}, {31, 33}, {41, 43}, {51, 52}, {61, 61}};
     bool all = true;
 
     for (size_t i = 0; i < sizeof spans / sizeof spans[0]; i++)
@@ -696,6 +747,7 @@ int main(void)
     empty = depth_of(nothing);
     try_sparse();
     try_pairs();
+    try_report();
     try_write();
     try_boot();
     try_slots();

@@ -23,6 +23,7 @@ import store
 import vectors
 import writer
 from cases_compare import Case
+from cases_report import Adding
 from join import Joined
 from passes import Answer, GoingOn
 from slots import Record, Slot
@@ -31,6 +32,8 @@ from test_join import slow_join
 from test_launch import cases_in as launch_cases
 from test_launch import slow_values as slow_launch_values
 from test_passes import History
+from test_report import cases_in as report_cases
+from test_report import slow_values as slow_report_values
 from test_starter import cases_in as start_cases
 from test_starter import slow_values as slow_start_values
 
@@ -43,7 +46,7 @@ LARGEST_ROOM = 8192
 LARGEST_SPACE = 8192
 MOST_STARTS = 160
 MOST_NUMBERS = 96
-LARGEST_OUTPUT = 490_000
+LARGEST_OUTPUT = 500_000
 RECORD = 22
 RECORD_SLOT = 5
 RECORD_CURRENT = 20
@@ -341,6 +344,12 @@ def join_lines(data: bytes) -> Lines:
         yield (crc.checksum(b"".join(map(join_values, cases[at:at + 32]))),)
 
 
+def report_lines(data: bytes) -> Lines:
+    for case in report_cases(data):
+        assert isinstance(case, Adding) or len(case.image) <= LARGEST_IMAGE
+        yield slow_report_values(case)
+
+
 READERS: Dict[str, Callable[[bytes], Lines]] = {
     "crc": crc_lines,
     "fields": field_lines,
@@ -355,6 +364,7 @@ READERS: Dict[str, Callable[[bytes], Lines]] = {
     "write": write_lines,
     "compare": compare_lines,
     "join": join_lines,
+    "report": report_lines,
 }
 
 

@@ -154,6 +154,15 @@ join     case:  first length u32, second length u32, room u32 (at most 8,192), t
                 NUMBER of the refusal or 0; its PLACE, or 0; the IMAGE that it is of,
                 1, 2, or 0; the joined image's LENGTH, 0 when refused; then every
                 byte of the output after.
+
+report   case:  kind u32, report of 16 u64; where kind is 0 partition length u64 and an
+                image, which is counted; where it is 1 another report of 16 u64,
+                which is added.
+         report: images accepted, blocks written, bytes written, blocks skipped, the
+                largest; then how many got each refusal number, 1 to 11.
+         values: NUMBER of the refusal, 61, or 0, also for a refused image, which is
+                counted; the CHECKSUM of the report after, 8 bytes each, low byte
+                first.
 """
 
 import argparse
@@ -169,6 +178,7 @@ import cases_fields
 import cases_join
 import cases_launch
 import cases_passes
+import cases_report
 import cases_slots
 import cases_sparse
 import cases_start
@@ -193,6 +203,7 @@ GROUPS: Tuple[Tuple[str, Callable[[random.Random], Group]], ...] = (
     ("write", cases_write.group),
     ("compare", cases_compare.group),
     ("join", cases_join.group),
+    ("report", cases_report.group),
 )
 
 

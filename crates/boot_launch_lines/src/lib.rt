@@ -18,6 +18,5 @@ pub fn put_pair(out: &mut [u8], at: usize, release: u32, kernel: u32) -> usize
 pub fn put_refused(out: &mut [u8], number: u32) -> usize
     ensures { λ r. ⌜ Put (now (out .entry)) 0 (refusedLine number) (now (out .exit)) r ⌝ }
 {
-    let next = text::put_labelled(out, 0, b"refused ", number as u64);
-    text::put(out, next, b"\n")
+    text::put_single(out, 0, b"refused ", number as u64)
 }

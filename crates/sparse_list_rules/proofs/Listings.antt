@@ -5,7 +5,7 @@ use mathlib.Core.List.{List, _∷_, _++_, append-assoc}
 use Prim.Native.Nat.{ℕ, _+_, _≤_, _<_}
 use lib.ListN.{length}
 use borrow.Author.Tests.{lt-ltb, le-ltb}
-use Rattle.text_rules.specs.Input.{longest, tooLong}
+use Rattle.text_rules.specs.Input.{longest, partition, tooLong}
 use Rattle.sparse_rules.specs.declared.Chunk.{Chunk}
 use Rattle.sparse_rules.specs.declared.Counts.{Counts}
 use Rattle.rules.specs.Answer.{accepted, refused}
@@ -13,7 +13,7 @@ use Rattle.sparse_rules.specs.Judge.{judged}
 use Rattle.sparse_rules.specs.Answers.{answer}
 use Rattle.sparse_rules.proofs.Image.{answer-accepted, answer-refused}
 use Rattle.sparse_list_rules.specs.Lines.{refusedLine, chunkLine}
-use Rattle.sparse_list_rules.specs.Listing.{partition, chunkLines, imageLines, listingOf, listing}
+use Rattle.sparse_list_rules.specs.Listing.{chunkLines, imageLines, listingOf, listing}
 
 -- the lines of some chunks, and what comes after them: the first chunk's line, then those of the others
 pub lines-step : (first : ℕ) (k : Chunk) (ks : List Chunk) (y : List ℕ) → chunkLines first (k ∷ ks) ++ y ≡ chunkLine first k ++ (chunkLines (first + k .blocks) ks ++ y)

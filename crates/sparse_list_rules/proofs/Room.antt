@@ -10,7 +10,7 @@ use native.Mathlib.Omega.{arith}
 use lib.Dec.{leb}
 use lib.ListN.{length, length-append}
 use borrow.Author.Tests.{leb-true, leb-false, le-leb, lt-leb}
-use Rattle.text_rules.specs.Input.{longest, tooLong}
+use Rattle.text_rules.specs.Input.{longest, partition, tooLong}
 use Rattle.text_rules.specs.Put.{Put}
 use Rattle.text_rules.proofs.Putting.{put-length, put-start}
 use Rattle.sparse_rules.specs.declared.Header.{Header}
@@ -27,7 +27,7 @@ use Rattle.sparse_rules.proofs.Image.{chunks-walked}
 use Rattle.sparse_list_rules.specs.declared.Listed.the-variants.{Whole, TooShort}
 use Rattle.sparse_list_rules.specs.Lines.{chunkLine}
 use Rattle.sparse_list_rules.proofs.Lengths.{refused-most, header-most, chunk-most, last-most}
-use Rattle.sparse_list_rules.specs.Listing.{partition, chunkLines, listingOf, listing, output, heldOf, held, most, AlwaysWhole}
+use Rattle.sparse_list_rules.specs.Listing.{chunkLines, listingOf, listing, output, heldOf, held, most, AlwaysWhole}
 use Rattle.sparse_list_rules.proofs.Listings.{listing-long, listing-found}
 
 -- the lines of the chunks from a cursor on: five bytes for each byte of the input

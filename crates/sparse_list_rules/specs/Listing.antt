@@ -6,7 +6,7 @@ use mathlib.Core.List.{List, [], _∷_, _++_}
 use Prim.Native.Nat.{ℕ, _+_, _≤_}
 use lib.Dec.{leb, ltb}
 use lib.ListN.{length, take, drop}
-use Rattle.text_rules.specs.Input.{longest, tooLong}
+use Rattle.text_rules.specs.Input.{longest, partition, tooLong}
 use Rattle.sparse_rules.specs.declared.Chunk.{Chunk}
 use Rattle.sparse_rules.specs.declared.Counts.{Counts}
 use Rattle.sparse_rules.specs.Header.{headerOf}
@@ -17,10 +17,6 @@ use Rattle.sparse_rules.specs.Judge.{judged}
 use Rattle.sparse_list_rules.specs.declared.Listed.{Listed}
 use Rattle.sparse_list_rules.specs.declared.Listed.the-variants.{Whole, TooShort}
 use Rattle.sparse_list_rules.specs.Lines.{refusedLine, headerLine, chunkLine, lastLine}
-
--- "a partition of 1,048,576 bytes"
-abbrev pub partition : ℕ
-partition = 1048576
 
 -- "Each chunk, empty ones too, has a line"; the next chunk's first block comes after the blocks of this one
 unfoldable pub chunkLines : ℕ → List Chunk → List ℕ

@@ -3,6 +3,7 @@ pub mod Facts
 pub mod Refusals
 pub mod Counting
 pub mod Cells
+pub mod Filled
 pub mod Longer
 pub mod SumLaws
 pub mod Theorems

@@ -24,7 +24,7 @@ use Rattle.sparse_rules.specs.Chunks.{typeAt, kindOf, isKnown, chunkTest
 use Rattle.sparse_rules.specs.Counts.{countsOf}
 use Rattle.sparse_rules.specs.Judge.{sumTests, summed, structure, judged, effect, effectOf}
 use Rattle.sparse_rules.specs.Answers.{answer, answerFor}
-use Rattle.sparse_rules.specs.Theorems.{Sums, Unmoved, Checksums, NoneStated, TypesTold, RefusalNumbers}
+use Rattle.sparse_rules.specs.Theorems.{Sums, Unmoved, Checksums, NoneStated, TypesTold, RefusalNumbers, LastNumber}
 use Rattle.rules.proofs.Tests.{all-fail, first-most}
 use Rattle.sparse_rules.proofs.Walk.{stepped, ended}
 use Rattle.sparse_rules.proofs.Facts.{chunk-facts, sum-none, sum-refused, sum-passed, header-passed, judged-sum, judged-accepted, accepted-facts}
@@ -108,15 +108,19 @@ walk-most s len h (suc n) c =
     onward-most 10 (reading s len h c) (λ r. more (r .0) (walk s len h n (r .1))) (reading-most s len h c)
     (λ r. onward-most 10 (walk s len h n (r .1)) (λ ks. accepted (r .0 ∷ ks)) (walk-most s len h n (r .1)) (λ ks. zero-le))
 
--- and an image that states no checksum
-stated-most : (s : List ℕ) (len room : ℕ) → statedChecksum s ≡ 0 → numberOf (judged s len room) ≤ 10
+-- and an image by one that no test of its checksum passes
+judged-most : (m : ℕ) → 10 ≤ m → (s : List ℕ) → ((ks : List Chunk) → first (sumTests s ks) ≤ m) → (len room : ℕ) → numberOf (judged s len room) ≤ m
 unfolding judged summed structure headerTests
-stated-most s len room z =
-    unless-most (first (headerTests s len room)) 0 10 (summed s (structure s len))
-    (first-most 10 (headerTests s len room) (tt, (tt, (tt, (tt, (tt, (tt, tt)))))))
-    (onward-most 10 (structure s len) (λ ks. unless (first (sumTests s ks)) 24 (accepted ks))
-    (walk-most s len (headerOf s) (totalChunks s) (origin (headerOf s)))
-    (λ ks. unless-most (first (sumTests s ks)) 24 10 (accepted ks) (rw (sum-none s ks z) zero-le) zero-le))
+judged-most m low s h len room =
+    unless-most (first (headerTests s len room)) 0 m (summed s (structure s len))
+    (le-trans (first-most 10 (headerTests s len room) (tt, (tt, (tt, (tt, (tt, (tt, tt))))))) low)
+    (onward-most m (structure s len) (λ ks. unless (first (sumTests s ks)) 24 (accepted ks))
+    (le-trans (walk-most s len (headerOf s) (totalChunks s) (origin (headerOf s))) low)
+    (λ ks. unless-most (first (sumTests s ks)) 24 m (accepted ks) (h ks) zero-le))
+
+-- up to 10 where none is stated
+stated-most : (s : List ℕ) (len room : ℕ) → statedChecksum s ≡ 0 → numberOf (judged s len room) ≤ 10
+stated-most s len room z = judged-most 10 (omega arith) s (λ ks. rw (sum-none s ks z) zero-le) len room
 
 -- so 11 cannot come
 pub none-stated : NoneStated
@@ -168,3 +172,10 @@ refusal-numbers =
       images = judged-number;
       answers = λ s len room. onward-number (judged s len room) (λ ks. accepted (countsOf ks)) (judged-number s len room) (λ ks. tt);
     }
+
+-- and none has one past 11
+pub last-number : LastNumber
+unfolding answer answerFor sumTests
+last-number s len room =
+    onward-most 11 (judged s len room) (λ ks. accepted (countsOf ks))
+    (judged-most 11 (omega arith) s (λ ks. first-most 11 (sumTests s ks) (tt, tt)) len room) (λ ks. zero-le)

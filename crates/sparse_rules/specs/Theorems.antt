@@ -1,5 +1,5 @@
 -- Theorems about images: what an accepted one adds up to, that more room changes nothing, what the checksum decides, that a
--- chunk says whether its type is known, and that every refusal has a number.
+-- chunk says whether its type is known, and which numbers refusals have.
 -- Assumes nothing.
 use mathlib.Core.Path.{_≡_}
 use mathlib.Core.Bool.{_||_}
@@ -8,7 +8,7 @@ use Prim.Native.Nat.{ℕ, _+_, _*_, _≤_}
 use lib.Dec.{eqb}
 use lib.ListN.{length}
 use Rattle.rules.specs.First.{first}
-use Rattle.rules.specs.Answer.{accepted, refused, HasNumber}
+use Rattle.rules.specs.Answer.{accepted, refused, numberOf, HasNumber}
 use Rattle.sparse_rules.specs.declared.Header.{Header}
 use Rattle.sparse_rules.specs.declared.Cursor.{Cursor}
 use Rattle.sparse_rules.specs.declared.Chunk.{Chunk}
@@ -84,3 +84,7 @@ pub record RefusalNumbers : Type 0 where
   pub images : (s : List ℕ) (len room : ℕ) → HasNumber (judged s len room)
   -- of the judge
   pub answers : (s : List ℕ) (len room : ℕ) → HasNumber (answer s len room)
+
+-- the judge's refusals are numbered up to 11
+abbrev pub LastNumber : Type 0
+LastNumber = (s : List ℕ) (len room : ℕ) → numberOf (answer s len room) ≤ 11

@@ -5,6 +5,7 @@ use mathlib.Core.List.{List, _++_}
 use Prim.Native.Nat.{ℕ, _+_, _-_, _<_}
 use native.Mathlib.Omega.{arith}
 use lib.ListN.{length}
+use Rattle.text_rules.specs.Input.{partition}
 use Rattle.text_rules.specs.Put.{Put}
 use Rattle.text_rules.proofs.Putting.{put-then, put-length}
 use Rattle.sparse_rules.specs.declared.Header.{Header}
@@ -20,7 +21,7 @@ use Rattle.sparse_rules.proofs.Walk.{ended, read-on, never-refused}
 use Rattle.sparse_rules.proofs.Facts.{chunk-facts}
 use Rattle.sparse_rules.proofs.Image.{chunks-walked}
 use Rattle.sparse_list_rules.specs.Lines.{headerLine, chunkLine, lastLine}
-use Rattle.sparse_list_rules.specs.Listing.{partition, chunkLines, imageLines}
+use Rattle.sparse_list_rules.specs.Listing.{chunkLines, imageLines}
 use Rattle.sparse_list_rules.proofs.Listings.{lines-step}
 
 -- what is left to put of an accepted image after its first line, with these counts of blocks

@@ -2,11 +2,12 @@
 ghost use mathlib.Core.Path.{_≡_};
 ghost use mathlib.Core.List.{List};
 ghost use lib.ListN.{length};
+ghost use Rattle.text_rules.specs.Input.{partition};
 ghost use Rattle.text_rules.specs.Put.{Put};
 ghost use Rattle.sparse_rules.specs.declared.Chunk.{Chunk};
 ghost use Rattle.rules.specs.Answer.{accepted};
 ghost use Rattle.sparse_rules.specs.Judge.{judged};
-ghost use Rattle.sparse_list_rules.specs.Listing.{partition, imageLines, listing};
+ghost use Rattle.sparse_list_rules.specs.Listing.{imageLines, listing};
 use sparse_rules::ChunkRead;
 use sparse_rules::Counts;
 use sparse_rules::Cursor;

@@ -3,6 +3,7 @@
 
 use slot_bytes::RECORD;
 use slot_rules::Op;
+use tarpaulark_report::REPORT;
 ghost use mathlib.Core.Path.{_≡_};
 ghost use mathlib.Core.List.{[], _∷_};
 ghost use lib.ListN.{length};
@@ -25,6 +26,8 @@ ghost use Rattle.sparse_join_rules.specs.Join as joiner;
 ghost use Rattle.tarpaulark_numbers.specs.Numbers.{verdictNumbers, countNumbers, pairNumbers, chunkIn, chunkNumbers, headerNumbersBy, layoutNumbers};
 ghost use Rattle.slot_on_bytes.specs.OnBytes.{onBytes, freshBytes, bytesRefusal, bytesStartable};
 ghost use Rattle.tarpaulark_starter.specs.OnBytes.{startBytes};
+ghost use Rattle.report_rules.specs.Reports.{added, counted};
+ghost use Rattle.tarpaulark_report.specs.Numbers.{reportNumbers, reportIn};
 
 // Judges an image for a partition of so many bytes. Answers place, then blocks written, don't care, unknown.
 #[no_mangle]
@@ -320,4 +323,27 @@ pub extern "C" fn tarpaulark_start(
         ≡ startBytes (now (bytes .entry)) (now (a .entry) ∷ now (b .entry) ∷ now (c .entry) ∷ now (d .entry) ∷ []) (now (misc .entry)) (now (loader .entry)) (now (space .entry)) ⌝ }
 {
     tarpaulark_starter::start(bytes, a, b, c, d, misc, loader, space, out)
+}
+
+// Counts an image in a report, judged for a partition of so many bytes. A report is accepted, blocks, bytes, skipped,
+// largest, then the counts of the refusal numbers 1 to 11. A refusal leaves it.
+#[no_mangle]
+pub extern "C" fn tarpaulark_report_count(
+    report: &mut [u64; REPORT],
+    image: &[u8],
+    partition_len: u64,
+) -> u32
+    ensures { λ r. ⌜ (r ≡ counted (reportIn (now (report .entry))) (record { image = now (image .entry); room = «partition_len» }) .number)
+        × (now (report .exit) ≡ reportNumbers (counted (reportIn (now (report .entry))) (record { image = now (image .entry); room = «partition_len» }) .report)) ⌝ }
+{
+    tarpaulark_report::count(report, image, partition_len)
+}
+
+// Adds another report to one. A refusal leaves both.
+#[no_mangle]
+pub extern "C" fn tarpaulark_report_add(report: &mut [u64; REPORT], other: &[u64; REPORT]) -> u32
+    ensures { λ r. ⌜ (r ≡ added (reportIn (now (report .entry))) (reportIn (now (other .entry))) .number)
+        × (now (report .exit) ≡ reportNumbers (added (reportIn (now (report .entry))) (reportIn (now (other .entry))) .report)) ⌝ }
+{
+    tarpaulark_report::add(report, other)
 }

@@ -49,13 +49,20 @@ pub fn put_labelled(out: &mut [u8], at: usize, word: &[u8], n: u64) -> usize
     put_number(out, next, n)
 }
 
+// Puts a word, a number after it and a newline, and answers the place after the line.
+pub fn put_single(out: &mut [u8], at: usize, word: &[u8], n: u64) -> usize
+    ensures { λ r. ⌜ Put (now (out .entry)) at (line (labelled (now (word .entry)) n ∷ [])) (now (out .exit)) r ⌝ }
+{
+    let next = put_labelled(out, at, word, n);
+    put(out, next, b"\n")
+}
+
 // Puts two words with a number after each and a newline, and answers the place after the line.
 pub fn put_pair(out: &mut [u8], at: usize, word: &[u8], n: u64, second: &[u8], m: u64) -> usize
     ensures { λ r. ⌜ Put (now (out .entry)) at (line (labelled (now (word .entry)) n ∷ labelled (now (second .entry)) m ∷ [])) (now (out .exit)) r ⌝ }
 {
     let next = put_labelled(out, at, word, n);
-    let end = put_labelled(out, next, second, m);
-    put(out, end, b"\n")
+    put_single(out, next, second, m)
 }
 
 // Puts three words with a number after each and a newline, and answers the place after the line.

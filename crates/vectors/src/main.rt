@@ -8,6 +8,7 @@ mod field_cases;
 mod image_cases;
 mod pair_cases;
 mod pass_cases;
+mod report_cases;
 mod slot_cases;
 mod start_cases;
 mod store_cases;
@@ -46,6 +47,8 @@ const COMPARE: usize = 12;
 
 const JOIN: usize = 13;
 
+const REPORT: usize = 14;
+
 // The lines of a group's cases, one after the other: the group's name, the case's number, its values.
 fn cases(group: usize, name: &[u8], file: &[u8]) {
     let mut at: usize = 0;
@@ -66,7 +69,8 @@ fn cases(group: usize, name: &[u8], file: &[u8]) {
             STORE | PASSES => store_cases::case(rest),
             WRITE => image_cases::write(rest),
             COMPARE => pair_cases::block(rest, 16, false),
-            _ => pair_cases::block(rest, 32, true),
+            JOIN => pair_cases::block(rest, 32, true),
+            _ => report_cases::case(rest),
         };
         io::write_all(STDOUT_FILENO, b"\n");
         at = past(file, at, len);
@@ -76,7 +80,7 @@ fn cases(group: usize, name: &[u8], file: &[u8]) {
 
 // The groups, each from its file, whose name is the group's and `.bin`.
 fn main() {
-    for group in CRC..JOIN + 1 {
+    for group in CRC..REPORT + 1 {
         let mut path = io::buffer();
         let len = os::arg(group, &mut path);
         let fd = os::open_read(&path[..len]);

@@ -1,5 +1,6 @@
 // The starter: a record, four images, misc, the loader's line and some space.
 use crate::support::least;
+use crate::support::numbers_on;
 use crate::support::part;
 use crate::support::prepare;
 use crate::support::value;
@@ -18,12 +19,7 @@ const ANSWER: usize = 20;
 
 // The checksum of a layout, the record and the space.
 fn summed(out: &[u64; ANSWER], record: &[u8; RECORD], space: &[u8]) -> u32 {
-    let mut state = crc32::start();
-    for i in 3usize..ANSWER {
-        let mut bytes = [0u8; 8];
-        fields_write::write64(&mut bytes, 0, out[i]);
-        state = crc32::update(state, &bytes);
-    }
+    let state = numbers_on(crc32::start(), out, 3);
     crc32::finish(crc32::update(crc32::update(state, record), space))
 }
 

@@ -63,6 +63,17 @@ pub(crate) fn value(n: u64) {
     io::print_decimal(STDOUT_FILENO, n);
 }
 
+// What numbers from a place on make of a checksum's state, 8 bytes each, low byte first.
+pub(crate) fn numbers_on(state: u32, numbers: &[u64], from: usize) -> u32 {
+    let mut after = state;
+    for i in from..numbers.len() {
+        let mut bytes = [0u8; 8];
+        fields_write::write64(&mut bytes, 0, numbers[i]);
+        after = crc32::update(after, &bytes);
+    }
+    after
+}
+
 // Prints the number of a verdict, its place, and the blocks written, don't care and unknown.
 pub(crate) fn verdict(number: u32, out: &[u64; 4]) {
     value(number as u64);

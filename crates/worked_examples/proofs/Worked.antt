@@ -1,4 +1,4 @@
--- The worked examples P1 to P14, those of requests 4 to 7 and 10 to 12, and the lister's texts, computed together: every call of the table gives back what its row says.
+-- The worked examples P1 to P14, those of requests 4 to 7 and 10 to 13, and the lister's texts, computed together: every call of the table gives back what its row says.
 -- Assumes nothing.
 use mathlib.Core.Path.{refl}
 use mathlib.Core.List.{flatten}
@@ -37,9 +37,13 @@ use Rattle.sparse_join_rules.specs.Join as join
 use Rattle.text_rules.specs.Words.{digitsUpTo, decimal, labelled}
 use Rattle.sparse_list_rules.specs.Lines.{refusedLine, headerLine, kindWord, chunkLine, lastLine}
 use Rattle.sparse_list_rules.specs.Listing.{chunkLines, listingOf, listing}
+use Rattle.report_rules.specs.Images.{answerTo, acceptedBy, blocksBy, skippedBy, refusedBy, bytesBy, extentBy}
+use Rattle.report_rules.specs.Reports as report
+use Rattle.report_rules.specs.Text as totals
+use Rattle.report_rules.specs.Folder as folder
 use Rattle.worked_examples.specs.Calls.{perform}
 use Rattle.worked_examples.specs.Table.{Worked}
 
 pub worked : Worked
-unfolding perform numberAt ones onesIn bit steps byteStep crcFrom crc32 countOf slotsValid startableIn valid firstFrom startOf startableOf startsOf sectionsOf rowOf boot.headTests boot.sectionTests boot.answer ruleOf launch.launchTests launch.answer flatten releases.pairLine releases.takenLine releases.refusedLine releases.textOf releases.text upToZero textIn imageLine suffix mode line begins asksRecovery starter.begun starter.booted starter.afterStart starter.starter headerTests kindOf sizeRight chunkTests chunkAt reading endTests walk cellsBy cellsOf cells zeroed checksumOf blocksWhere sumTests summed structure judged effectOf effect judge.answerFor judge.answer store blockCells blocksFrom flatBlocks runs allEqual storedKind packed chunkHeader chunk chunks version header image encode write.flatImage write.writeTests write.answer write.output blockFrom stretch blocksOf blocksFound found blocks alike each pairAnswer refusedImage diff.changes diff.diff diff.numbers diff.answer diff.listed join.joinedBlocks join.join join.answer join.output listing listingOf labelled refusedLine headerLine chunkLine chunkLines lastLine digitsUpTo decimal kindWord
+unfolding perform numberAt ones onesIn bit steps byteStep crcFrom crc32 countOf slotsValid startableIn valid firstFrom startOf startableOf startsOf sectionsOf rowOf boot.headTests boot.sectionTests boot.answer ruleOf launch.launchTests launch.answer flatten releases.pairLine releases.takenLine releases.refusedLine releases.textOf releases.text upToZero textIn imageLine suffix mode line begins asksRecovery starter.begun starter.booted starter.afterStart starter.starter headerTests kindOf sizeRight chunkTests chunkAt reading endTests walk cellsBy cellsOf cells zeroed checksumOf blocksWhere sumTests summed structure judged effectOf effect judge.answerFor judge.answer store blockCells blocksFrom flatBlocks runs allEqual storedKind packed chunkHeader chunk chunks version header image encode write.flatImage write.writeTests write.answer write.output blockFrom stretch blocksOf blocksFound found blocks alike each pairAnswer refusedImage diff.changes diff.diff diff.numbers diff.answer diff.listed join.joinedBlocks join.join join.answer join.output listing listingOf labelled refusedLine headerLine chunkLine chunkLines lastLine digitsUpTo decimal kindWord answerTo acceptedBy blocksBy skippedBy refusedBy bytesBy extentBy report.total report.greatest report.reportOf report.sum report.allSmall report.fits report.added report.counted totals.totalLines totals.refusedLine totals.refusedLines totals.text folder.taken folder.printed
 worked = refl

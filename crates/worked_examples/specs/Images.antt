@@ -11,6 +11,7 @@ use Rattle.rules.specs.Answer.{Answer, accepted}
 use Rattle.boot_rules.specs.declared.Section.{Section}
 use Rattle.boot_rules.specs.declared.Layout.{Layout}
 use Rattle.sparse_rules.specs.declared.Counts.{Counts}
+use Rattle.report_rules.specs.declared.Report.{Report}
 
 -- P1: "`3A FF 26 ED 01 00 00 00 1C 00 0C 00 00 10 00 00` and twelve zero bytes"
 abbrev pub emptyImage : List ℕ
@@ -153,3 +154,7 @@ unused = record { used = false; unbootable = false; successful = false; corrupte
 -- a record of two slots, a and b: current, the count that it keeps, and the two
 abbrev pub two : ℕ → ℕ → Slot → Slot → Record
 two current startable a b = record { slots = a ∷ b ∷ unused ∷ unused ∷ []; current = current; startable = startable }
+
+-- request 13: a report without refusals
+abbrev pub report : ℕ → ℕ → ℕ → ℕ → ℕ → Report
+report a b y s l = record { accepted = a; blocks = b; bytes = y; skipped = s; largest = l; refused = replicate 11 0 }

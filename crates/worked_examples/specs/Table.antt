@@ -11,8 +11,8 @@ use Rattle.boot_rules.specs.declared.Layout.{Layout}
 use Rattle.starter_rules.specs.Starter as starter
 use Rattle.starter_rules.specs.Theorems.{effect}
 use Rattle.text_rules.specs.Words.{ascii}
-use Rattle.worked_examples.specs.Calls.{Row, perform, stores, writes, locates, locatesFor, prints, starts, tells, boots, lists, compares, joins, stored, written, located, started, told, booted, listed, printed, compared, joined}
-use Rattle.worked_examples.specs.Images.{emptyImage, twoChunks, p2, p7, counts, upFrom, flat, flatImage, firstOfTwo, secondOfTwo, firstUpdate, secondUpdate, bothUpdates, boot3, boot4With, boot4, boot2, section, none, layout, slot, corruptedSlot, two}
+use Rattle.worked_examples.specs.Calls.{Row, perform, stores, writes, locates, locatesFor, prints, starts, tells, boots, lists, compares, joins, reports, adds, totals, stored, written, located, started, told, booted, listed, printed, compared, joined, reported}
+use Rattle.worked_examples.specs.Images.{emptyImage, twoChunks, p2, p7, counts, upFrom, flat, flatImage, firstOfTwo, secondOfTwo, firstUpdate, secondUpdate, bothUpdates, boot3, boot4With, boot4, boot2, section, none, layout, slot, corruptedSlot, two, report}
 
 -- P1: "writing 0 bytes at block size 4,096"
 abbrev pub row1 : Row
@@ -262,10 +262,54 @@ rowBootedSpent =
       result = booted (effect (refused 26 0) (two 0 2 (slot false false 0) (slot false false 3)) (replicate 64 7));
     }
 
--- P1 to P14, two of request 10 among them, two of request 4, three of request 6, the lister's texts, four of request 5, two of request 7, eight of request 11, and four of request 12
+-- request 13: P2 and then P7, "blocks skipped (don't care and unknown)"
+abbrev pub rowCountedBoth : Row
+rowCountedBoth = record { call = reports (report 1 1 4 2 12) p7 12; result = reported (record { number = 0; report = report 2 2 8 4 12 }) }
+
+-- P3, counted under its number
+abbrev pub rowCountedRefused : Row
+rowCountedRefused =
+    record {
+      call = reports (report 1 1 4 2 12) p2 11;
+      result = reported (record { number = 0; report = record { accepted = 1; blocks = 1; bytes = 4; skipped = 2; largest = 12; refused = replicate 5 0 ++ (1 ∷ replicate 5 0) } });
+    }
+
+-- the last total of 64 bits, beside a largest of 64 bits, which "is no total"
+abbrev pub rowCountedLast : Row
+rowCountedLast =
+    record {
+      call = reports (report 0 0 0xFFFFFFFFFFFFFFFB 0 0xFFFFFFFFFFFFFFFF) p2 12;
+      result = reported (record { number = 0; report = report 1 1 0xFFFFFFFFFFFFFFFF 2 0xFFFFFFFFFFFFFFFF });
+    }
+
+-- "61 exactly when a total would pass 64 bits .. the reports then unchanged": one byte more
+abbrev pub rowCountedPast : Row
+rowCountedPast =
+    record {
+      call = reports (report 0 0 0xFFFFFFFFFFFFFFFC 0 7) p2 12;
+      result = reported (record { number = 61; report = report 0 0 0xFFFFFFFFFFFFFFFC 0 7 });
+    }
+
+-- "Two half reports can be added, taking the larger largest"
+abbrev pub rowAdded : Row
+rowAdded = record { call = adds (report 1 1 4 2 12) (report 2 3 24 0 8); result = reported (record { number = 0; report = report 3 4 28 2 12 }) }
+
+-- what is printed of P2, P7 and P6, in this order
+abbrev pub rowTotals : Row
+rowTotals =
+    record {
+      call = totals (p2 ∷ p7 ∷ (p2 ++ (0 ∷ [])) ∷ []);
+      result = printed (ascii "accepted 2\nblocks 2\nbytes 8\nskipped 4\nlargest 12\nrefused 10 1\n");
+    }
+
+-- of no file at all
+abbrev pub rowTotalsNone : Row
+rowTotalsNone = record { call = totals []; result = printed (ascii "accepted 0\nblocks 0\nbytes 0\nskipped 0\nlargest 0\n") }
+
+-- P1 to P14, two of request 10 among them, two of request 4, three of request 6, the lister's texts, four of request 5, two of request 7, eight of request 11, four of request 12, and seven of request 13
 abbrev pub table : List Row
 table =
-    row1 ∷ row2 ∷ row3 ∷ row4 ∷ row5 ∷ row6 ∷ row7 ∷ row8 ∷ row8One ∷ row9 ∷ row9Short ∷ row10 ∷ row10Short ∷ row11 ∷ rowRetired ∷ rowRetiredPast ∷ row12 ∷ row13 ∷ row14 ∷ rowCorrupted ∷ rowNoCandidate ∷ rowCounted ∷ rowMiscounted ∷ rowMiscountedStart ∷ rowListed ∷ rowListedUnknown ∷ rowCompared ∷ rowComparedShort ∷ rowComparedGeometry ∷ rowComparedSecond ∷ rowJoined ∷ rowJoinedShort ∷ rowTaken ∷ rowNotTaken ∷ rowOwn ∷ rowBadRequest ∷ rowOs ∷ rowPrinted ∷ rowPrintedOs ∷ rowPrintedRefused ∷ rowBooted ∷ rowBootedShort ∷ rowBootedRecovery ∷ rowBootedSpent ∷ []
+    row1 ∷ row2 ∷ row3 ∷ row4 ∷ row5 ∷ row6 ∷ row7 ∷ row8 ∷ row8One ∷ row9 ∷ row9Short ∷ row10 ∷ row10Short ∷ row11 ∷ rowRetired ∷ rowRetiredPast ∷ row12 ∷ row13 ∷ row14 ∷ rowCorrupted ∷ rowNoCandidate ∷ rowCounted ∷ rowMiscounted ∷ rowMiscountedStart ∷ rowListed ∷ rowListedUnknown ∷ rowCompared ∷ rowComparedShort ∷ rowComparedGeometry ∷ rowComparedSecond ∷ rowJoined ∷ rowJoinedShort ∷ rowTaken ∷ rowNotTaken ∷ rowOwn ∷ rowBadRequest ∷ rowOs ∷ rowPrinted ∷ rowPrintedOs ∷ rowPrintedRefused ∷ rowBooted ∷ rowBootedShort ∷ rowBootedRecovery ∷ rowBootedSpent ∷ rowCountedBoth ∷ rowCountedRefused ∷ rowCountedLast ∷ rowCountedPast ∷ rowAdded ∷ rowTotals ∷ rowTotalsNone ∷ []
 
 -- every call of the table gives back what its row says
 abbrev pub Worked : Type 0

@@ -6,7 +6,8 @@ use native.Mathlib.Omega.{arith}
 use borrow.Author.Needs.{needs}
 use lib.ListN.{length, getD}
 use Rattle.sparse_rules.specs.Cells.{tab, fillByte}
-use Rattle.sparse_store_bytes.proofs.Filled.{Filled, filled-none, filled-more, fill-again}
+use Rattle.sparse_rules.proofs.Filled.{Filled, filled-none, filled-more}
+use Rattle.sparse_store_bytes.proofs.Spreading.{fill-again}
 use Rattle.sparse_store_bytes.proofs.put_fill.Statement.{statement}
 use Rattle.sparse_store_bytes.proofs.put_fill.Tie as tie
 

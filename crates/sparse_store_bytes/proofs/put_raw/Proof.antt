@@ -4,7 +4,7 @@ use Prim.Native.Nat.{_-_}
 use borrow.Author.Needs.{needs}
 use lib.ListN.{length}
 use Rattle.sparse_rules.specs.Cells.{rawByte}
-use Rattle.sparse_store_bytes.proofs.Filled.{Filled, filled-none, filled-more, filled-all}
+use Rattle.sparse_rules.proofs.Filled.{Filled, filled-none, filled-more, filled-all}
 use Rattle.sparse_store_bytes.proofs.put_raw.Statement.{statement}
 use Rattle.sparse_store_bytes.proofs.put_raw.Tie as tie
 

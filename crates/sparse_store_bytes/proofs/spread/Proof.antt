@@ -4,7 +4,8 @@ use Prim.Native.Nat.{_-_}
 use native.Mathlib.Omega.{arith}
 use borrow.Author.Needs.{needs}
 use lib.ListN.{length}
-use Rattle.sparse_store_bytes.proofs.Filled.{Spreading, spreading-none, spreading-more, filled-all}
+use Rattle.sparse_rules.proofs.Filled.{filled-all}
+use Rattle.sparse_store_bytes.proofs.Spreading.{Spreading, spreading-none, spreading-more}
 use Rattle.sparse_store_bytes.proofs.spread.Statement.{statement}
 use Rattle.sparse_store_bytes.proofs.spread.Tie as tie
 

@@ -9,30 +9,14 @@ use Rattle.text.proofs.put_pair.Tie as tie
 put-labelled-requires : tie.Need-put-labelled-requires
 put-labelled-requires c κs = search needs
 
-put-labelled-requires-2 : tie.Need-put-labelled-requires-2
-put-labelled-requires-2 c κs = search needs
-
-slice-aggregate-put : tie.Need-slice-aggregate-put
-slice-aggregate-put c = search needs
-
-put-requires : tie.Need-put-requires
-put-requires c κs = search needs
+put-single-requires : tie.Need-put-single-requires
+put-single-requires c κs = search needs
 
 same-length : tie.Need-same-length
 same-length c = search needs
 
 returns : tie.Need-returns
-returns c =
-    put-then (omega arith) (c .before .before .before .before .before .before .before .before .before .before .before .put-labelled .ensures)
-    (put-then (omega arith) (c .before .before .before .before .before .before .before .put-labelled2 .ensures) (c .before .before .put .ensures))
+returns c = put-then (omega arith) (c .before .before .before .before .before .before .put-labelled .ensures) (c .before .before .put-single .ensures)
 
 pub put-pair-spec : {M : Type 1} → statement M
-put-pair-spec =
-    tie.close
-    (tie.spec
-    put-labelled-requires
-    put-labelled-requires-2
-    slice-aggregate-put
-    put-requires
-    same-length
-    returns)
+put-pair-spec = tie.close (tie.spec put-labelled-requires put-single-requires same-length returns)

@@ -51,14 +51,17 @@ sparse-requires c κs = search needs
 write-requires : tie.Need-write-requires Inv-loop μ-loop
 write-requires c κs = search needs
 
-case-requires-5 : tie.Need-case-requires-5 Inv-loop μ-loop
-case-requires-5 c κs = search needs
-
 block-requires-2 : tie.Need-block-requires-2 Inv-loop μ-loop
 block-requires-2 c κs = search needs
 
 block-requires-3 : tie.Need-block-requires-3 Inv-loop μ-loop
 block-requires-3 c κs = search needs
+
+case-requires-5 : tie.Need-case-requires-5 Inv-loop μ-loop
+case-requires-5 c κs = search needs
+
+case-requires-6 : tie.Need-case-requires-6 Inv-loop μ-loop
+case-requires-6 c κs = search needs
 
 slice-aggregate-write-all : tie.Need-slice-aggregate-write-all Inv-loop μ-loop
 slice-aggregate-write-all c = search needs
@@ -101,8 +104,9 @@ cases-spec =
     sparse-requires
     write-requires
     block-requires-2
-    case-requires-5
     block-requires-3
+    case-requires-5
+    case-requires-6
     slice-aggregate-write-all
     write-all-requires-2
     past-requires

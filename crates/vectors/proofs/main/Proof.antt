@@ -8,7 +8,7 @@ abbrev Inv-loop : tie.InvT-loop
 Inv-loop group₀ group = Unit {0}
 
 abbrev μ-loop : tie.MeasureT-loop
-μ-loop group₀ group = 14 - group
+μ-loop group₀ group = 15 - group
 
 loop-holds : tie.Need-loop-holds Inv-loop μ-loop
 loop-holds c = search needs

@@ -1,17 +1,15 @@
--- `vectors::start_cases::summed` meets its contract: each turn passes a number. Assumes nothing.
+-- `vectors::support::numbers_on` meets its contract: each turn passes a number. Assumes nothing.
 use Prim.Native.Nat.{_-_}
+use lib.ListN.{length}
 use borrow.Author.Needs.{needs}
-use Rattle.vectors.proofs.start_cases.summed.Statement.{statement}
-use Rattle.vectors.proofs.start_cases.summed.Tie as tie
+use Rattle.vectors.proofs.support.numbers_on.Statement.{statement}
+use Rattle.vectors.proofs.support.numbers_on.Tie as tie
 
 abbrev Inv-loop : tie.InvT-loop
-Inv-loop out «record» space state₀ i₀ state i = Unit {0}
+Inv-loop state numbers from after₀ i₀ i-end after i = Unit {0}
 
 abbrev μ-loop : tie.MeasureT-loop
-μ-loop out «record» space state₀ i₀ state i = 20 - i
-
-start-requires : tie.Need-start-requires Inv-loop μ-loop
-start-requires c κs = search needs
+μ-loop state numbers from after₀ i₀ i-end after i = length numbers - i
 
 loop-holds : tie.Need-loop-holds Inv-loop μ-loop
 loop-holds c = search needs
@@ -22,8 +20,8 @@ slice-aggregate-write64 c = search needs
 mul-write64 : tie.Need-mul-write64 Inv-loop μ-loop
 mul-write64 c = search needs
 
-element-copy-out-write64 : tie.Need-element-copy-out-write64 Inv-loop μ-loop
-element-copy-out-write64 c = search needs
+shared-slice-read-write64 : tie.Need-shared-slice-read-write64 Inv-loop μ-loop
+shared-slice-read-write64 c = search needs
 
 write64-requires : tie.Need-write64-requires Inv-loop μ-loop
 write64-requires c κs = search needs
@@ -43,36 +41,23 @@ loop-less c = search needs
 loop-again : tie.Need-loop-again Inv-loop μ-loop
 loop-again c = search needs
 
-update-requires-2 : tie.Need-update-requires-2 Inv-loop μ-loop
-update-requires-2 c κs = search needs
-
-update-requires-3 : tie.Need-update-requires-3 Inv-loop μ-loop
-update-requires-3 c κs = search needs
-
-finish-requires : tie.Need-finish-requires Inv-loop μ-loop
-finish-requires c κs = search needs
-
 returns : tie.Need-returns Inv-loop μ-loop
 returns c = search needs
 
-pub summed-spec : {M : Type 1} → statement M
-summed-spec =
+pub numbers-on-spec : {M : Type 1} → statement M
+numbers-on-spec =
     tie.close
     (tie.spec
     Inv-loop
     μ-loop
-    start-requires
     loop-holds
     slice-aggregate-write64
     mul-write64
-    element-copy-out-write64
+    shared-slice-read-write64
     write64-requires
     slice-aggregate-update
     update-requires
     add-i
     loop-less
     loop-again
-    update-requires-2
-    update-requires-3
-    finish-requires
     returns)

@@ -1,0 +1,5 @@
+pub mod Images
+pub mod Reports
+pub mod Theorems
+pub mod Text
+pub mod Folder
