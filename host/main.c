@@ -47,7 +47,8 @@ static const struct command {
      "adds up any number of sparse images, each judged for a partition of so many bytes, or as\n"
      "          if it had room: how many are accepted, blocks and bytes that they write, blocks that\n"
      "          they skip, total blocks x block size of the largest, and how many got each refusal\n"
-     "          number; each that is refused is named on standard error, and is no failure"},
+     "          number; each that is refused is named on standard error, with --json in the list images,\n"
+     "          and is no failure"},
     {"write", 3, 3, 0, write_image, "write FLAT BLOCK-SIZE OUT", "makes a sparse image from flat bytes"},
     {"sections", 1, 1, 0, sections, "sections BOOT-IMAGE",
      "prints the version of a boot image, then name, position and size of each\n"

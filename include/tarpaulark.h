@@ -7,10 +7,10 @@
  * command line.
  *
  * Every function takes any input and always ends. It returns 0, or the number of
- * the first refusal that applies, and fills the lent array `answer`, whose length
- * is fixed; entries that do not apply are 0. A refusal stores nothing, lists
- * nothing, writes no image and no line and changes no slot record and no report, with
- * two exceptions: a storing pass that refuses late (see Passes, below), and
+ * the first refusal that applies, and fills the lent array `answer`, if it takes one,
+ * whose length is fixed; entries that do not apply are 0. A refusal stores nothing,
+ * lists nothing, writes no image and no line and changes no slot record and no report,
+ * with two exceptions: a storing pass that refuses late (see Passes, below), and
  * tarpaulark_start, which leaves the record as Start left it also where it refuses
  * after that.
  *

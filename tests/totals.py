@@ -89,6 +89,12 @@ def link_in_place(target: str, path: str) -> None:
     os.symlink(target, path)
 
 
+def folder_in_place(path: str) -> None:
+    """Makes a folder in the place of a file."""
+    os.remove(path)
+    os.mkdir(path)
+
+
 def named(data: bytes, *names: str) -> Tuple[Entry, ...]:
     """Files of these names that hold the data."""
     return tuple((name, partial(write, data)) for name in names)
@@ -226,9 +232,11 @@ def near_folders() -> Iterator[Folder]:
 
 
 def linked_folders() -> Iterator[Folder]:
-    """Images that are links to files, one of them to what has no bytes."""
+    """Images that are links to files, one of them to what has no bytes, which a folder has not
+    either."""
     yield Folder((P2, P7, b"", P2), (("2.img", link_elsewhere), ("4.img", link_elsewhere)))
     yield Folder((P2, b"", P7), (("2.img", partial(link_in_place, os.devnull)),))
+    yield Folder((P2, b"", P7), (("2.img", folder_in_place),))
 
 
 def long_folders() -> Iterator[Folder]:

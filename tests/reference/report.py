@@ -117,13 +117,15 @@ def folder_text(files: Iterable[bytes]) -> str:
 
 
 def numbered_files() -> Iterator[bytes]:
-    """What `1.img`, `2.img` and on hold, up to the first that is missing; of a longer one than
-    is judged no more than that shows."""
+    """What `1.img`, `2.img` and on hold, up to the first that is missing or cannot be opened; of a
+    longer one than is judged no more than that shows.  A folder of such a name holds no bytes."""
     for number in itertools.count(1):
         try:
             with open(f"{number}.img", "rb") as file:
                 yield file.read(LONGEST_IMAGE + 1)
-        except FileNotFoundError:
+        except IsADirectoryError:
+            yield b""
+        except OSError:
             return
 
 

@@ -39,7 +39,19 @@ small-next f i n h =
     let here : n - i ≡ suc (n - (i + 1)) = omega arith in
     rw (here, add-one i)
 
--- a report that passes the test
+-- a report whose totals have 64 bits passes the test
+pub facts-fit : (r : Report) → Fits r → fits r ≡ true
+unfolding fits
+facts-fit r f =
+    rw (
+      lt-ltb (r .accepted) (2 ^ 64) (f .accepted),
+      lt-ltb (r .blocks) (2 ^ 64) (f .blocks),
+      lt-ltb (r .bytes) (2 ^ 64) (f .bytes),
+      lt-ltb (r .skipped) (2 ^ 64) (f .skipped),
+      below-all (r .refused) (f .refused),
+    )
+
+-- and the totals of one that passes it have 64 bits
 pub fits-facts : (r : Report) → fits r ≡ true → Fits r
 unfolding fits
 fits-facts r e =
@@ -54,18 +66,6 @@ fits-facts r e =
       skipped = ltb-true (r .skipped) (2 ^ 64) (c .1);
       refused = all-below (r .refused) (d .1);
     }
-
--- and one whose totals have 64 bits passes it
-pub facts-fit : (r : Report) → Fits r → fits r ≡ true
-unfolding fits
-facts-fit r f =
-    rw (
-      lt-ltb (r .accepted) (2 ^ 64) (f .accepted),
-      lt-ltb (r .blocks) (2 ^ 64) (f .blocks),
-      lt-ltb (r .bytes) (2 ^ 64) (f .bytes),
-      lt-ltb (r .skipped) (2 ^ 64) (f .skipped),
-      below-all (r .refused) (f .refused),
-    )
 
 -- a report whose totals do not all have 64 bits fails it
 pub facts-pass : (r : Report) → (Fits r → ⊥) → fits r ≡ false

@@ -27,7 +27,7 @@ use Rattle.report_rules.specs.Theorems.{Fits}
 use Rattle.report_rules.specs.Text.{text}
 use Rattle.report_rules.specs.Folder.{fileName, judgedFile, taken, printed, turnBy, turn, after, FolderPrinted}
 use Rattle.report_rules.proofs.Sums.{count-at, count-past, parts-fit}
-use Rattle.report_rules.proofs.Theorems.{every-way}
+use Rattle.report_rules.proofs.Ways.{every-way}
 
 module _ (r : Report) (s : List ℕ) where
   -- a file that is too long

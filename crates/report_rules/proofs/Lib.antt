@@ -1,6 +1,8 @@
 pub mod Fitting
 pub mod Sums
 pub mod One
-pub mod Theorems
+pub mod Adding
+pub mod Totals
+pub mod Ways
 pub mod Texts
 pub mod Folders

@@ -61,7 +61,18 @@ unfolding counted
 counted-one r x e = rw e
 
 module _ (x : Item) where
-  -- the report of an accepted image
+  -- the report of a refused image
+  pub refused-one : (n place : ℕ) → refused n place ≡ answerTo x
+      → _≡_ {A = Report}
+      (record { accepted = 0; blocks = 0; bytes = 0; skipped = 0; largest = 0; refused = tab (once n) 1 11 })
+      (reportOf (x ∷ []))
+  unfolding reportOf total greatest acceptedBy blocksBy bytesBy skippedBy extentBy refusedBy
+  refused-one n place e =
+      rw (sym e)
+      (same-parts refl refl (sym (add-zero _ ∙ zero-mul _)) refl (sym (max-zero _ ∙ zero-mul _))
+      (tab-same (once n) (λ m. once n m + 0) 1 1 11 (λ j l. sym (add-zero _))))
+
+  -- the report of an accepted one
   pub accepted-one : (c : Counts) → accepted c ≡ answerTo x
       → _≡_ {A = Report}
       (record {
@@ -77,14 +88,3 @@ module _ (x : Item) where
   accepted-one c e =
       rw (sym e)
       (same-parts refl (sym (add-zero _)) (sym (add-zero _)) (sym (add-zero _)) (sym (max-zero _ ∙ one-mul _)) refl)
-
-  -- the report of a refused one
-  pub refused-one : (n place : ℕ) → refused n place ≡ answerTo x
-      → _≡_ {A = Report}
-      (record { accepted = 0; blocks = 0; bytes = 0; skipped = 0; largest = 0; refused = tab (once n) 1 11 })
-      (reportOf (x ∷ []))
-  unfolding reportOf total greatest acceptedBy blocksBy bytesBy skippedBy extentBy refusedBy
-  refused-one n place e =
-      rw (sym e)
-      (same-parts refl refl (sym (add-zero _ ∙ zero-mul _)) refl (sym (max-zero _ ∙ zero-mul _))
-      (tab-same (once n) (λ m. once n m + 0) 1 1 11 (λ j l. sym (add-zero _))))

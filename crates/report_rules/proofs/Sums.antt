@@ -3,14 +3,14 @@
 use mathlib.Core.Path.{_≡_, refl, ap, _∙_}
 use mathlib.Core.Bool.{Bool, true, false, _&&_}
 use mathlib.Core.List.{List, [], _∷_, _++_}
-use Prim.Native.Nat.{ℕ, max, _+_, _<_, _≤_}
-use native.Mathlib.Nat.{zero-add, add-assoc, zero-max}
+use Prim.Native.Nat.{ℕ, max, _+_, _<_, _≤_, _^_}
+use native.Mathlib.Nat.{zero-add, add-comm, add-assoc, max-comm, zero-max}
 use native.Mathlib.Omega.{arith}
 use lib.Dec.{ltb}
-use lib.ListN.{getD, List·getD-eq-default}
+use lib.ListN.{length, getD, List·getD-eq-default}
 use borrow.Author.Tests.{ltb-true, ltb-false}
 use Rattle.sparse_rules.specs.Cells.{tab}
-use Rattle.sparse_rules.proofs.Cells.{getD-tab, tab-same}
+use Rattle.sparse_rules.proofs.Cells.{getD-tab, tab-same, length-tab}
 use Rattle.report_rules.specs.declared.Report.{Report}
 use Rattle.report_rules.specs.Images.{Item, answerTo, acceptedBy, blocksBy, bytesBy, skippedBy, extentBy, refusedBy}
 use Rattle.report_rules.specs.Reports.{total, greatest, refusals, reportOf, countsAt, sum, small, allSmall, fits}
@@ -84,39 +84,60 @@ pub count-past : (xs : List Item) (i : ℕ) → 11 ≤ i → getD (reportOf xs .
 unfolding reportOf
 count-past xs i h = List·getD-eq-default (tab (refusals xs) 1 11) 0 h
 
--- no count of a list is less than that of a part of it
-count-least : (xs ys : List Item) (i : ℕ) → (getD (reportOf xs .refused) i 0 ≤ getD (reportOf (xs ++ ys) .refused) i 0) × (getD (reportOf ys .refused) i 0 ≤ getD (reportOf (xs ++ ys) .refused) i 0)
-count-least xs ys i = go (ltb i 11) refl
+-- ---- in any order and grouping
+
+pub sum-either : (a b : Report) → sum a b ≡ sum b a
+unfolding sum
+sum-either a b =
+    same-parts
+    (add-comm (a .accepted) (b .accepted))
+    (add-comm (a .blocks) (b .blocks))
+    (add-comm (a .bytes) (b .bytes))
+    (add-comm (a .skipped) (b .skipped))
+    (max-comm (a .largest) (b .largest))
+    (tab-same (countsAt (a .refused) (b .refused)) (countsAt (b .refused) (a .refused)) 0 0 11 (λ j l. add-comm (getD (a .refused) (0 + j) 0) (getD (b .refused) (0 + j) 0)))
+
+pub sum-grouped : (a b c : Report) → sum (sum a b) c ≡ sum a (sum b c)
+unfolding sum
+sum-grouped a b c =
+    same-parts
+    (add-assoc (a .accepted) (b .accepted) (c .accepted))
+    (add-assoc (a .blocks) (b .blocks) (c .blocks))
+    (add-assoc (a .bytes) (b .bytes) (c .bytes))
+    (add-assoc (a .skipped) (b .skipped) (c .skipped))
+    (max-assoc (a .largest) (b .largest) (c .largest))
+    (tab-same (countsAt (sum a b .refused) (c .refused)) (countsAt (a .refused) (sum b c .refused)) 0 0 11
+    (λ j l. let e : 0 + j ≡ j = zero-add j in rw (e, sum-at a b j l, sum-at b c j l) (add-assoc (getD (a .refused) j 0) (getD (b .refused) j 0) (getD (c .refused) j 0))))
+
+-- ---- parts of what fits
+
+-- where a sum fits, so does its first part, if it has eleven counts
+pub left-fits : (a b : Report) → length (a .refused) ≡ 11 → Fits (sum a b) → Fits a
+unfolding sum
+left-fits a b e f =
+    record {
+      accepted = omega (arith, f .accepted);
+      blocks = omega (arith, f .blocks);
+      bytes = omega (arith, f .bytes);
+      skipped = omega (arith, f .skipped);
+      refused = λ i. at i (ltb i 11) refl;
+    }
   where
-    go : (b : Bool) → ltb i 11 ≡ b → (getD (reportOf xs .refused) i 0 ≤ getD (reportOf (xs ++ ys) .refused) i 0) × (getD (reportOf ys .refused) i 0 ≤ getD (reportOf (xs ++ ys) .refused) i 0)
-    go true e =
-        let h = ltb-true i 11 e in
-        let t = total-append (λ x. refusedBy (1 + i) (answerTo x)) xs ys in
-        rw (count-at xs i h, count-at ys i h, count-at (xs ++ ys) i h) (omega arith, omega arith)
-    go false e =
-        let h = ltb-false i 11 e in
-        (omega (arith, count-past xs i h), omega (arith, count-past ys i h))
+    at : (i : ℕ) (t : Bool) → ltb i 11 ≡ t → getD (a .refused) i 0 < 2 ^ 64
+    at i true q = omega (arith, f .refused i, sum-at a b i (ltb-true i 11 q))
+    at i false q = let h = ltb-false i 11 q in omega (arith, List·getD-eq-default (a .refused) 0 {n = i} (omega (arith, e)))
+
+-- a sum has eleven counts, and so has the report of a list
+pub sum-counts : (a b : Report) → length (sum a b .refused) ≡ 11
+unfolding sum
+sum-counts a b = length-tab (countsAt (a .refused) (b .refused)) 0 11
+
+list-counts : (xs : List Item) → length (reportOf xs .refused) ≡ 11
+unfolding reportOf
+list-counts xs = length-tab (refusals xs) 1 11
 
 -- where the report of a list fits, so do those of its parts
 pub parts-fit : (xs ys : List Item) → Fits (reportOf (xs ++ ys)) → Fits (reportOf xs) × Fits (reportOf ys)
-unfolding reportOf
 parts-fit xs ys f =
-    let a = total-append (λ x. acceptedBy (answerTo x)) xs ys in
-    let b = total-append (λ x. blocksBy (answerTo x)) xs ys in
-    let c = total-append (λ x. bytesBy (x .image) (answerTo x)) xs ys in
-    let d = total-append (λ x. skippedBy (answerTo x)) xs ys in (
-      record {
-        accepted = omega (arith, f .accepted);
-        blocks = omega (arith, f .blocks);
-        bytes = omega (arith, f .bytes);
-        skipped = omega (arith, f .skipped);
-        refused = λ i. omega (arith, f .refused i, count-least xs ys i .0);
-      },
-      record {
-        accepted = omega (arith, f .accepted);
-        blocks = omega (arith, f .blocks);
-        bytes = omega (arith, f .bytes);
-        skipped = omega (arith, f .skipped);
-        refused = λ i. omega (arith, f .refused i, count-least xs ys i .1);
-      },
-    )
+    let both : Fits (sum (reportOf xs) (reportOf ys)) = rw (joined xs ys) f in
+    (left-fits (reportOf xs) (reportOf ys) (list-counts xs) both, left-fits (reportOf ys) (reportOf xs) (list-counts ys) (rw (sum-either (reportOf xs) (reportOf ys)) at both))

@@ -3,15 +3,15 @@
 use mathlib.Core.Path.{_≡_, refl, sym, ap, _∙_}
 use mathlib.Core.Bool.{Bool, true, false, cond}
 use mathlib.Core.List.{List, [], _∷_, _++_, append-assoc, append-nil}
-use Prim.Native.Nat.{ℕ, zero, suc, _+_, _-_, _*_, _≤_}
+use Prim.Native.Nat.{ℕ, zero, suc, _+_, _-_, _≤_}
 use native.Mathlib.Nat.{add-zero, suc-add, add-suc}
 use native.Mathlib.Omega.{arith}
 use lib.Dec.{eqb}
 use lib.ListN.{length, getD, length-append}
 use borrow.Author.Tests.{ne-eqb}
 use Rattle.text_rules.specs.Put.{Put}
-use Rattle.text_rules.specs.Words.{ascii, labelled, line}
-use Rattle.text_rules.proofs.Digits.{labelled-most}
+use Rattle.text_rules.specs.Words.{ascii, digitsUpTo, decimal, labelled, line}
+use Rattle.text_rules.proofs.Digits.{decimal-most, labelled-most}
 use Rattle.report_rules.specs.declared.Report.{Report}
 use Rattle.report_rules.specs.Text.{totalLines, refusedLine, refusedLines, text, most, TextMost}
 
@@ -40,19 +40,34 @@ lines-none cs n = refl
 
 -- ---- lengths
 
-refused-most : (n c : ℕ) → length (refusedLine n c) ≤ 50
-unfolding refusedLine
-refused-most n c = go (eqb c 0)
+-- the line of a number of so many digits
+refused-most : (k n c : ℕ) → length (decimal n) ≤ k → length (refusedLine n c) ≤ 30 + k
+unfolding refusedLine labelled
+refused-most k n c h = go (eqb c 0)
   where
-    go : (b : Bool) → length (cond b [] (line (labelled (ascii "refused ") n ∷ labelled (ascii " ") c ∷ []))) ≤ 50
+    go : (b : Bool) → length (cond b [] (line (labelled (ascii "refused ") n ∷ labelled (ascii " ") c ∷ []))) ≤ 30 + k
     go true = omega arith
-    go false = simp length-append (omega (arith, labelled-most (ascii "refused ") n, labelled-most (ascii " ") c))
+    go false = simp length-append (omega (arith, h, decimal-most c))
 
-lines-most : (cs : List ℕ) (n k : ℕ) → length (refusedLines cs n k) ≤ 50 * k
-unfolding refusedLines
-lines-most cs n zero = omega arith
-lines-most cs n (suc k) =
-    omega (arith, length-append (refusedLine n (getD cs (n - 1) 0)) (refusedLines cs (suc n) k), refused-most n (getD cs (n - 1) 0), lines-most cs (suc n) k)
+-- all lines of refusals: nine numbers have a digit, and two have two
+lines-most : (cs : List ℕ) → length (refusedLines cs 1 11) ≤ 343
+unfolding refusedLines decimal digitsUpTo
+lines-most cs =
+    simp length-append
+    (omega (
+      arith,
+      refused-most 1 1 (getD cs 0 0) (omega arith),
+      refused-most 1 2 (getD cs 1 0) (omega arith),
+      refused-most 1 3 (getD cs 2 0) (omega arith),
+      refused-most 1 4 (getD cs 3 0) (omega arith),
+      refused-most 1 5 (getD cs 4 0) (omega arith),
+      refused-most 1 6 (getD cs 5 0) (omega arith),
+      refused-most 1 7 (getD cs 6 0) (omega arith),
+      refused-most 1 8 (getD cs 7 0) (omega arith),
+      refused-most 1 9 (getD cs 8 0) (omega arith),
+      refused-most 2 10 (getD cs 9 0) (omega arith),
+      refused-most 2 11 (getD cs 10 0) (omega arith),
+    ))
 
 totals-most : (r : Report) → length (totalLines r) ≤ 143
 unfolding totalLines
@@ -70,7 +85,7 @@ totals-most r =
 -- no text is longer
 pub text-most : TextMost
 unfolding text
-text-most r = omega (arith, length-append (totalLines r) (refusedLines (r .refused) 1 11), totals-most r, lines-most (r .refused) 1 11)
+text-most r = omega (arith, length-append (totalLines r) (refusedLines (r .refused) 1 11), totals-most r, lines-most (r .refused))
 
 -- so the place after a text that has been put from the start on lies in such a buffer
 pub text-fits : (r : Report) {a b : List ℕ} {n : ℕ} → Put a 0 (text r) b n → n ≤ most

@@ -34,9 +34,9 @@ refusedLines counts n (suc k) = refusedLine n (getD counts (n - 1) 0) ++ refused
 unfoldable pub text : Report → List ℕ
 text r = totalLines r ++ refusedLines (r .refused) 1 11
 
--- a length that no text passes
+-- a length that no text passes: that of the text where all sixteen numbers have 20 digits
 abbrev pub most : ℕ
-most = 693
+most = 486
 
 -- a buffer of that length holds every text
 abbrev pub TextMost : Type 0

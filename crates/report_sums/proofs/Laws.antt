@@ -18,7 +18,7 @@ use Rattle.report_rules.specs.declared.Counted.{Counted}
 use Rattle.report_rules.specs.Reports.{countsAt, small, allSmall, sum, fits, added}
 use Rattle.report_rules.proofs.Fitting.{all-below, small-none, small-next}
 use Rattle.report_rules.proofs.Sums.{sum-fits, sum-is}
-use Rattle.report_rules.proofs.Theorems.{added-fits, added-passes}
+use Rattle.report_rules.proofs.Adding.{added-fits, added-passes}
 
 -- a sum has 64 bits exactly where the second number is no more than the first leaves
 pub fits-test : (x y : ℕ) → x < 2 ^ 64 → leb y (0xFFFFFFFFFFFFFFFF - x) ≡ small (x + y)

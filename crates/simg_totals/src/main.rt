@@ -24,15 +24,14 @@ fn take(report: Report, index: u64) -> Turn {
 // The report of the files, one after the other.
 fn totals() -> Report {
     let mut report = report::empty();
-    let mut index: u64 = 0;
-    while index < u64::MAX {
-        index = index + 1;
+    let mut more = true;
+    let mut index: u64 = 1;
+    while more & (index < u64::MAX) {
         let turn = take(report, index);
         let after = turn.report;
         report = after;
-        if turn.more {} else {
-            return report;
-        }
+        more = turn.more;
+        index = index + 1;
     }
     report
 }
@@ -40,7 +39,7 @@ fn totals() -> Report {
 // The buffer has room for every text (`text-most` of report_rules).
 fn main() {
     let report = totals();
-    let mut text = [0u8; 693];
+    let mut text = [0u8; 486];
     let len = report_text::put_text(&mut text, report);
     io::write_all(STDOUT_FILENO, &text[..len]);
 }

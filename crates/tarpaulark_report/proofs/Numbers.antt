@@ -12,7 +12,7 @@ use Rattle.report_rules.specs.declared.Report.{Report}
 use Rattle.report_rules.specs.declared.Counted.{Counted}
 use Rattle.report_rules.specs.Reports.{reportOf, added}
 use Rattle.report_rules.proofs.One.{counted-one}
-use Rattle.report_rules.proofs.Theorems.{added-same}
+use Rattle.report_rules.proofs.Adding.{added-same}
 use Rattle.tarpaulark_report.specs.Numbers.{reportNumbers, reportIn, Promises}
 
 -- what is handed over of an answer

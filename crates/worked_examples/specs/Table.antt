@@ -266,15 +266,15 @@ rowBootedSpent =
 abbrev pub rowCountedBoth : Row
 rowCountedBoth = record { call = reports (report 1 1 4 2 12) p7 12; result = reported (record { number = 0; report = report 2 2 8 4 12 }) }
 
--- P3, counted under its number
+-- P3, counted under its number, and not in the largest
 abbrev pub rowCountedRefused : Row
 rowCountedRefused =
     record {
-      call = reports (report 1 1 4 2 12) p2 11;
-      result = reported (record { number = 0; report = record { accepted = 1; blocks = 1; bytes = 4; skipped = 2; largest = 12; refused = replicate 5 0 ++ (1 ∷ replicate 5 0) } });
+      call = reports (report 1 1 4 2 8) p2 11;
+      result = reported (record { number = 0; report = record { accepted = 1; blocks = 1; bytes = 4; skipped = 2; largest = 8; refused = replicate 5 0 ++ (1 ∷ replicate 5 0) } });
     }
 
--- the last total of 64 bits, beside a largest of 64 bits, which "is no total"
+-- the last total of 64 bits, beside a largest of 64 bits, which is no total
 abbrev pub rowCountedLast : Row
 rowCountedLast =
     record {
