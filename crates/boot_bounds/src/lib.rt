@@ -1,5 +1,7 @@
 // Whether the sections of a boot image lie where they must: the recovery section where its offset field says, and every
 // section inside the image.
+#![tactic(auto)]
+
 ghost use Rattle.std.specs.Prelude.{◌≡◌};
 ghost use Rattle.boot_rules.specs.Sections.{any_of, rooms_in};
 ghost use Rattle.boot_rules.specs.Tests.{misplaced, overruns};

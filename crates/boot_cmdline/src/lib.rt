@@ -1,4 +1,6 @@
 // Where the command line of a boot image stands.
+#![tactic(auto)]
+
 ghost use Rattle.std.specs.Prelude.{◌≡◌};
 ghost use Rattle.boot_rules.specs.Sections.{cmdline_in, extra_in};
 

@@ -1,5 +1,7 @@
 // The header of a boot image: its fields, read by the table of their positions, and the first refusal
 // of the header (tests.rt).
+#![tactic(auto)]
+
 pub mod tests;
 
 ghost use Rattle.std.specs.Prelude.{◌≡◌, cond};

@@ -1,6 +1,8 @@
 // The sections of an Android boot image, header versions 0 to 4: where each that is offered begins and how long it is,
 // or the number of the first refusal that applies. The sections are laid out one after another (sections.rt), each
 // position rounded up to a page by shifts (pages.rt).
+#![tactic(auto)]
+
 mod pages;
 mod sections;
 

@@ -10,14 +10,14 @@ use boot_header::{page_in, row_in, word};
 use boot_rules::{Field, Rooms, Section};
 
 // A step over one section: the section, and where the next one begins.
-#[derive(Drop)]
+#[derive(Clone, Copy)]
 pub(crate) struct Step {
     pub(crate) section: Section,
     pub(crate) next: u64,
 }
 
 // The first three sections, the retired one the last of them, and where the next one begins.
-#[derive(Drop)]
+#[derive(Clone, Copy)]
 pub(crate) struct Front {
     pub(crate) kernel: Section,
     pub(crate) ramdisk: Section,

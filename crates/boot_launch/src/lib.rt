@@ -1,5 +1,7 @@
 // The sections of a boot image for a board, by the release that it was launched with and its kernel: what the finder of
 // sections answers, where the rule of the two takes the image.
+#![tactic(auto)]
+
 ghost use Rattle.std.specs.Prelude.{◌≡◌};
 ghost use Rattle.rules.specs.First.{first};
 ghost use Rattle.boot_rules.specs.Tests.{answer_of};

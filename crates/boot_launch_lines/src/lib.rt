@@ -1,4 +1,6 @@
 // The lines of the text about a boot image and the launch releases that take it.
+#![tactic(auto)]
+
 ghost use Rattle.text_rules.specs.Put.{Put};
 ghost use Rattle.boot_launch_rules.specs.Text.{pair_line, refused_line};
 

@@ -1,4 +1,6 @@
 // The rule table by launch release as a constant: one row a pair of release and kernel, in order of release, plain first.
+#![tactic(auto)]
+
 ghost use Rattle.std.specs.Prelude.{◌≡◌};
 ghost use Rattle.boot_launch_rules.specs.Rules.{rule_of, RuleTable};
 

@@ -1,4 +1,6 @@
 // The text that says which pairs of release and kernel take a boot image, line after line.
+#![tactic(auto)]
+
 ghost use Rattle.text_rules.specs.Put.{Put};
 ghost use Rattle.boot_launch_rules.specs.Rules.{with_each, pairs};
 ghost use Rattle.boot_launch_rules.specs.Text.{taken_line, taken_lines, text};

@@ -1,5 +1,7 @@
 // What of the sections of a boot image is offered to callers: all but the retired one. Of that one it is only said
 // whether it is present: whether its size is not 0.
+#![tactic(auto)]
+
 ghost use Rattle.std.specs.Prelude.{◌≡◌};
 ghost use Rattle.boot_rules.specs.Sections.{rooms_in, layout_of};
 

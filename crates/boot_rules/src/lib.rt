@@ -1,9 +1,10 @@
 // The boot image as definitions and theorems, and the types that the code over it shares: the table of field
 // positions, the sections, and the answer. No code.
+#![tactic(auto)]
 
 // A number for each field of a header. The `load` columns are the addresses that the header states
 // for the section, or the tags, of that name.
-#[derive(Drop)]
+#[derive(Clone, Copy)]
 pub struct Columns {
     pub magic: u16,
     pub kernel: u16,
@@ -31,7 +32,7 @@ pub struct Columns {
 
 // The header length of a version, where each field begins, and its width in bytes. A field that the
 // version lacks has width 0.
-#[derive(Drop)]
+#[derive(Clone, Copy)]
 pub struct Row {
     pub header: u16,
     pub at: Columns,
@@ -39,7 +40,7 @@ pub struct Row {
 }
 
 // Where a field begins, and its width.
-#[derive(Drop)]
+#[derive(Clone, Copy)]
 pub struct Field {
     pub at: u16,
     pub width: u16,
@@ -47,7 +48,7 @@ pub struct Field {
 
 // A section: where it begins and its size in bytes. `present` is false, and position and size are
 // 0, for a section that the version lacks; an empty section is present with size 0.
-#[derive(Drop)]
+#[derive(Clone, Copy)]
 pub struct Section {
     pub present: bool,
     pub position: u64,
@@ -55,7 +56,7 @@ pub struct Section {
 }
 
 // The rooms that the sections of an image take, in their order, the retired one's among them.
-#[derive(Drop)]
+#[derive(Clone, Copy)]
 pub struct Rooms {
     pub kernel: Section,
     pub ramdisk: Section,
@@ -67,7 +68,7 @@ pub struct Rooms {
 
 // What an accepted image offers: its version, the sections that are not retired, in their order, and whether it
 // carries a retired one that is not empty.
-#[derive(Drop)]
+#[derive(Clone, Copy)]
 pub struct Layout {
     pub version: u32,
     pub kernel: Section,
@@ -79,7 +80,7 @@ pub struct Layout {
 }
 
 // The answer: the layout of an accepted image, or the number of the refusal.
-#[derive(Drop)]
+#[derive(Clone, Copy)]
 pub enum Located {
     Found(Layout),
     Refused(u32),

@@ -1,5 +1,7 @@
 // The table of field positions as a constant: one row a version of the boot image header, one column
 // a field.
+#![tactic(auto)]
+
 ghost use Rattle.std.specs.Prelude.{◌≡◌};
 ghost use Rattle.boot_rules.specs.Table.{row_of};
 

@@ -1,4 +1,6 @@
 // Reads a boot image from standard input, and prints the pairs of launch release and kernel that take it.
+#![tactic(auto)]
+
 use libc::{STDIN_FILENO, STDOUT_FILENO};
 
 // One byte more than an image may have is read, so that longer input is seen; the buffer has room for every text

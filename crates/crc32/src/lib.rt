@@ -4,6 +4,8 @@
 // `finish(update(start(), bytes))` is the checksum of bytes; calls of `update`, `update_zeros` and
 // `update_word` in a row give the state over the pieces one after the other. A run of n zero bytes
 // or of n words costs O(log n) steps for every n, so 2^48 bytes take microseconds.
+#![tactic(auto)]
+
 ghost use Rattle.std.specs.Prelude.{◌≡◌};
 ghost use Rattle.std.specs.Int.Bits.{bit_xor};
 ghost use Rattle.crc32_rules.specs.Crc.{crc32, all_ones};

@@ -2,6 +2,8 @@
 //
 // Each step waits for the one before it, so four lanes together go nearly four times as fast as one. Joining them
 // takes what a quarter's zero bytes make of one; a fifth lane works it out beside the four, in time that they wait.
+#![tactic(auto)]
+
 mod step;
 
 ghost use Rattle.std.specs.Prelude.{◌≡◌, List, ℕ, ◌%◌, length, replicate};
@@ -19,7 +21,7 @@ const ONE: u32 = 0x80000000;
 const LONG: usize = 32;
 
 // The states of four lanes, and what as many zero bytes as a lane has make of one.
-#[derive(Drop)]
+#[derive(Clone, Copy)]
 struct Lanes {
     first: u32,
     second: u32,

@@ -2,6 +2,8 @@
 //
 // n steps of the state are its product by the n-th power of x, and the powers come by squaring. A word leaves one state
 // as it is, its fixed point; over the word, the difference of a state from it goes on as over four zero bytes.
+#![tactic(auto)]
+
 ghost use Rattle.std.specs.Prelude.{◌≡◌, ℕ, ◌*◌, ◌/◌, ◌%◌, ◌^◌, replicate};
 ghost use Rattle.std.specs.Int.Bits.{bit_xor};
 ghost use Rattle.crc32_rules.specs.Crc.{bit, steps, crc_from};

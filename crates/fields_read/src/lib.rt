@@ -1,6 +1,8 @@
 // Numbers of two, four and eight bytes read from a slice of bytes, low byte first.
 //
 // Every read is total: a byte past the end counts as 0, at every position up to the largest usize.
+#![tactic(auto)]
+
 ghost use Rattle.std.specs.Prelude.{◌≡◌, ◌+◌, ◌^◌, ◌≤◌, ◌<◌, leb, length, get_or};
 ghost use Rattle.fields_rules.specs.Number.{number_at};
 

@@ -1,6 +1,8 @@
 // Numbers of two, four and eight bytes written into a slice of bytes, low byte first, and bytes copied.
 //
 // A number that does not fit whole is not written; a copy stores the bytes that have room.
+#![tactic(auto)]
+
 ghost use Rattle.std.specs.Prelude.{◌≡◌, ◌-◌, min};
 ghost use Rattle.std.proofs.lemmas.List.Edits.{sets};
 ghost use Rattle.fields_rules.specs.Number.{bytes, placed};

@@ -1,4 +1,6 @@
 // Reports by value: an empty one, one image counted, and two added. A report has the totals over the images that it counts.
+#![tactic(auto)]
+
 ghost use Rattle.std.specs.Prelude.{◌≡◌, []};
 ghost use Rattle.report_rules.specs.Reports.{report_of, counted};
 

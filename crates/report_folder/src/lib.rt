@@ -1,4 +1,6 @@
 // The images of a folder: the name of each file, and what counting it leaves.
+#![tactic(auto)]
+
 ghost use Rattle.std.specs.Prelude.{◌≡◌};
 ghost use Rattle.text_rules.specs.Put.{Put};
 ghost use Rattle.report_rules.specs.Folder.{file_name, turn};

@@ -1,4 +1,6 @@
 // The report of one image.
+#![tactic(auto)]
+
 ghost use Rattle.std.specs.Prelude.{◌≡◌, [], ◌∷◌, ◌+◌, ◌*◌, replicate};
 ghost use Rattle.rules.specs.Answer.{refused};
 ghost use Rattle.sparse_rules.specs.Cells.{tab};

@@ -1,8 +1,9 @@
 // Reports, the totals over judged images, as definitions and theorems, with the types that the code over them shares. No code.
+#![tactic(auto)]
 
 // Images accepted, blocks and bytes written, blocks skipped, the largest total blocks × block size of an accepted image, and
 // how many images got each refusal number: number n is counted at place n - 1.
-#[derive(Drop)]
+#[derive(Clone, Copy)]
 pub struct Report {
     pub accepted: u64,
     pub blocks: u64,
@@ -13,14 +14,14 @@ pub struct Report {
 }
 
 // What counting and adding answer: 0 with the new report, or the refusal's number with the report as it was.
-#[derive(Drop)]
+#[derive(Clone, Copy)]
 pub struct Counted {
     pub number: u32,
     pub report: Report,
 }
 
 // What the program has after a file: the report, and whether it goes on to the next file.
-#[derive(Drop)]
+#[derive(Clone, Copy)]
 pub struct Turn {
     pub more: bool,
     pub report: Report,

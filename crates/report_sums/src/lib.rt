@@ -1,4 +1,6 @@
 // Two reports added.
+#![tactic(auto)]
+
 ghost use Rattle.std.specs.Prelude.{◌≡◌, ◌+◌, ◌%◌, ◌^◌, max};
 ghost use Rattle.sparse_rules.specs.Cells.{tab};
 ghost use Rattle.report_rules.specs.Reports.{counts_at, small, all_small, added};
@@ -6,14 +8,14 @@ ghost use Rattle.report_rules.specs.Reports.{counts_at, small, all_small, added}
 use report_rules::{Counted, Report};
 
 // A sum in 64 bits, and whether it has no more.
-#[derive(Drop)]
+#[derive(Clone, Copy)]
 struct Sum {
     fits: bool,
     value: u64,
 }
 
 // The sums of two rows of counts, each in 64 bits, and whether none has more.
-#[derive(Drop)]
+#[derive(Clone, Copy)]
 struct Sums {
     fit: bool,
     values: [u64; 11],

@@ -1,4 +1,6 @@
 // The text of a report in a lent buffer, line after line.
+#![tactic(auto)]
+
 ghost use Rattle.text_rules.specs.Put.{Put};
 ghost use Rattle.report_rules.specs.Text.{total_lines, refused_line, refused_lines, text};
 

@@ -1,4 +1,6 @@
 // The lister: reads an image from standard input, and prints its text.
+#![tactic(auto)]
+
 use libc::{STDIN_FILENO, STDOUT_FILENO};
 use sparse_list_rules::Listed;
 

@@ -1,4 +1,6 @@
 // The totals over the images of a folder: reads 1.img, 2.img and on, and prints their report.
+#![tactic(auto)]
+
 use libc::STDOUT_FILENO;
 use report_rules::{Report, Turn};
 

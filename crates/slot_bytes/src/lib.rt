@@ -1,4 +1,6 @@
 // The slot record as 22 bytes, written and read. specs/Record.antt has the layout.
+#![tactic(auto)]
+
 ghost use Rattle.std.specs.Prelude.{◌≡◌, ◌<◌, ◌≤◌, ◌*◌};
 ghost use Rattle.std.proofs.lemmas.List.Edits.{sets};
 ghost use Rattle.slot_rules.specs.Records.{slot_at};

@@ -1,5 +1,7 @@
 // The operations on a record that the loader keeps and lends: each calls the operation by value, stores
 // the record that it hands back, and gives its answer.
+#![tactic(auto)]
+
 ghost use Rattle.std.specs.Prelude.{◌≡◌};
 ghost use Rattle.slot_rules.specs.Answers.{answer_of, change_of};
 ghost use Rattle.slot_rules.specs.Operations.{start_of, set_active_of, modified_of, corrupted_of, confirm_of};

@@ -1,5 +1,7 @@
 // The operations on the bytes of a slot record, for any number of a slot, and the count that is read from
 // them. specs/OnBytes.antt says what each answers and leaves.
+#![tactic(auto)]
+
 ghost use Rattle.std.specs.Prelude.{◌≡◌};
 ghost use Rattle.slot_rules.specs.Answers.{change_of, count_answer_of};
 ghost use Rattle.slot_on_bytes.specs.OnBytes.{reply_of, on_bytes, fresh_bytes, bytes_refusal, tally_of, bytes_startable, clipped};
@@ -9,7 +11,7 @@ use slot_rules::{Changed, Counted, Op, Outcome};
 
 // What an operation on bytes answers and leaves: 0 or the refusal's number, kind and started slot,
 // and the record's bytes afterwards.
-#[derive(Drop)]
+#[derive(Clone, Copy)]
 pub struct Reply {
     pub number: u32,
     pub answer: [u64; 2],
@@ -17,7 +19,7 @@ pub struct Reply {
 }
 
 // How many slots are startable: 0 and the count, or the refusal's number and 0.
-#[derive(Drop)]
+#[derive(Clone, Copy)]
 pub struct Tally {
     pub number: u32,
     pub startable: u64,

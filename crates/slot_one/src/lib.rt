@@ -1,5 +1,7 @@
 // One slot: what makes it valid, whether it counts as startable, what it may do, and what each operation
 // makes of it.
+#![tactic(auto)]
+
 ghost use Rattle.std.specs.Prelude.{◌≡◌};
 ghost use Rattle.slot_rules.specs.OneSlot.{slot_valid, sound, count_of, may_start, may_take_over, may_confirm, spent, marked, activated, modified, damaged, confirmed, new_slot};
 

@@ -1,5 +1,7 @@
 // The record's four places: the slot at each, whether it is in use, whether all are valid, how many are
 // startable, and a new record.
+#![tactic(auto)]
+
 ghost use Rattle.std.specs.Prelude.{◌≡◌};
 ghost use Rattle.slot_rules.specs.Records.{slot_at, slots_valid, startable_in, valid, is_in_use, new_record};
 ghost use Rattle.slot_rules.specs.Answers.{count_answer_of};

@@ -1,6 +1,7 @@
 // The slot record's operations, each taking a record by value and handing one back beside its answer.
 // slot_rules has the rules: specs/OneSlot.antt what is said of one slot, specs/Records.antt the record,
 // specs/Answers.antt the answers, specs/Operations.antt the operations.
+#![tactic(auto)]
 
 ghost use Rattle.std.specs.Prelude.{◌≡◌, true};
 ghost use Rattle.rules.specs.Answer.{refused};

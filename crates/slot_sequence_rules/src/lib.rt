@@ -1,1 +1,2 @@
 // What holds over every sequence of slot operations from a fresh record, as definitions and theorems. No code.
+#![tactic(auto)]

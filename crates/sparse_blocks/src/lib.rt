@@ -1,5 +1,7 @@
 // The reader of an image's blocks: it stands in a chunk that has a block left, or at the end. Blocks are passed in numbers,
 // and none is made.
+#![tactic(auto)]
+
 ghost use Rattle.std.specs.Prelude.{◌≡◌, ◌+◌, min};
 ghost use Rattle.sparse_rules.specs.Counts.{writes};
 ghost use Rattle.sparse_blocks_rules.specs.Blocks.{pace};

@@ -9,7 +9,7 @@ use sparse_blocks_rules::Reader;
 use sparse_same::{is_raw, same_block};
 
 // So many blocks in front have one kind of change.
-#[derive(Drop)]
+#[derive(Clone, Copy)]
 pub(crate) struct Change {
     pub(crate) kind: u32,
     pub(crate) blocks: u32,

@@ -1,6 +1,8 @@
 // What changed between two sparse images: the longest runs of blocks that neither writes, that only one of them writes, that
 // both write alike, and that both write differently. Where both images write and one is raw, a step is one block; else it is all
 // blocks that two chunks have in common, however many they are. With little room the blocks are gone over twice.
+#![tactic(auto)]
+
 mod front;
 mod growing;
 

@@ -1,4 +1,6 @@
 // The file header: its fields, and the tests that it must pass.
+#![tactic(auto)]
+
 ghost use Rattle.std.specs.Prelude.{◌≡◌, ◌&&◌, ◌*◌, leb, length};
 ghost use Rattle.rules.specs.First.{first};
 ghost use Rattle.sparse_rules.specs.Header.{header_of, header_size_right, block_size_right, header_tests};

@@ -10,7 +10,7 @@ use sparse_blocks_rules::Reader;
 use sparse_rules::{Chunk, Kind};
 
 // So many blocks are of a kind: 0 for don't care, 1 raw, 2 + w fill with the word w.
-#[derive(Drop)]
+#[derive(Clone, Copy)]
 pub(crate) struct Piece {
     pub(crate) kind: u64,
     pub(crate) blocks: u32,

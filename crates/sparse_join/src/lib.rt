@@ -2,6 +2,8 @@
 // stores nothing; the second puts its chunks and works out its checksum, and the header comes after them. Where the next blocks
 // are fill or don't care, a step is all that two chunks have in common, however many they are; where they are raw, it is a run
 // that the scan of flat data finds.
+#![tactic(auto)]
+
 mod front;
 mod growing;
 mod put;

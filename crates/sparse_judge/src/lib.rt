@@ -1,4 +1,6 @@
 // The judge of sparse images.
+#![tactic(auto)]
+
 mod checked;
 mod judging;
 mod sum;

@@ -10,7 +10,7 @@ ghost use Rattle.sparse_judge.specs.Pending.{state_of};
 use sparse_rules::{Chunk, Kind};
 
 // A state, and how many zero bytes are still to be summed after it.
-#[derive(Drop)]
+#[derive(Clone, Copy)]
 pub(crate) struct Sum {
     pub(crate) state: u32,
     pub(crate) zeros: u64,

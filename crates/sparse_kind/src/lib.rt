@@ -1,4 +1,6 @@
 // The kinds of chunks: what a chunk's type says of it, the total size that each kind must have, and where its blocks count.
+#![tactic(auto)]
+
 ghost use Rattle.std.specs.Prelude.{◌≡◌};
 ghost use Rattle.sparse_rules.specs.Chunks.{kind_of, size_right};
 ghost use Rattle.sparse_rules.specs.Counts.{counted_on};

@@ -1,4 +1,6 @@
 // The lister's lines, each put into a lent buffer from a place on.
+#![tactic(auto)]
+
 ghost use Rattle.text_rules.specs.Put.{Put};
 ghost use Rattle.text_rules.specs.Words.{labelled};
 ghost use Rattle.sparse_list_rules.specs.Lines.{kind_word, refused_line, header_line, chunk_line, last_line};

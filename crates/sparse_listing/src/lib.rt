@@ -1,4 +1,6 @@
 // The lister's answer: the text of an input in a lent buffer, and how it stands there.
+#![tactic(auto)]
+
 ghost use Rattle.std.specs.Prelude.{◌≡◌, length};
 ghost use Rattle.sparse_list_rules.specs.Listing.{held_of, held, output};
 

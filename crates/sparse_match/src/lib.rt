@@ -1,4 +1,6 @@
 // Whether two images can be taken together: both accepted, and of one geometry.
+#![tactic(auto)]
+
 ghost use Rattle.std.specs.Prelude.{◌≡◌, [], length};
 ghost use Rattle.sparse_rules.specs.Answers as judge;
 ghost use Rattle.sparse_blocks_rules.specs.Blocks.{needed};

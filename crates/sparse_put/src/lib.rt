@@ -1,5 +1,7 @@
 // The beginning of a chunk, put at its place of an output, and how long a chunk is. A part that does not fit whole changes
 // nothing. A chunk's kind is a number here: 0 for don't care, 1 raw, 2 + w fill with the word w.
+#![tactic(auto)]
+
 ghost use Rattle.std.specs.Prelude.{◌≡◌};
 ghost use Rattle.fields_rules.specs.Number.{placed};
 ghost use Rattle.sparse_write_rules.specs.Kinds.{fill};

@@ -1,4 +1,6 @@
 // The file header, put at the start of an output. One that does not fit whole changes nothing.
+#![tactic(auto)]
+
 ghost use Rattle.std.specs.Prelude.{◌≡◌, ◌≤◌, length};
 ghost use Rattle.std.proofs.lemmas.List.Edits.{sets};
 ghost use Rattle.fields_rules.specs.Number.{placed};

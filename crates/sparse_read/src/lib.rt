@@ -1,4 +1,6 @@
 // The sparse format, piece by piece: the chunk reader, and the functions of the file header and of kinds with it.
+#![tactic(auto)]
+
 ghost use Rattle.std.specs.Prelude.{◌≡◌, ◌+◌, length};
 ghost use Rattle.fields_rules.specs.Number.{number_at};
 ghost use Rattle.sparse_rules.specs.Chunks.{reading};

@@ -1,9 +1,10 @@
 // The sparse format as definitions and theorems, and the types that the code over it shares: the file header, the
 // chunks, what an accepted image gives each byte, and the judge's answer. No code.
+#![tactic(auto)]
 
 // The fields of the file header that the rest of an image is read by: block size, total blocks,
 // total chunks, the stated checksum, where the first chunk begins, and the chunk header size.
-#[derive(Drop)]
+#[derive(Clone, Copy)]
 pub struct Header {
     pub block: u32,
     pub total: u32,
@@ -14,14 +15,14 @@ pub struct Header {
 }
 
 // Where the next chunk is read: its offset in the image, and its first block.
-#[derive(Drop)]
+#[derive(Clone, Copy)]
 pub struct Cursor {
     pub at: usize,
     pub first: u32,
 }
 
 // What a chunk's type says of it: one of the three that are known, or that it is not known.
-#[derive(Drop)]
+#[derive(Clone, Copy)]
 pub enum Kind {
     Raw,
     Fill,
@@ -30,7 +31,7 @@ pub enum Kind {
 }
 
 // A chunk: its kind, how many blocks it spans, and where its data begin in the image.
-#[derive(Drop)]
+#[derive(Clone, Copy)]
 pub struct Chunk {
     pub kind: Kind,
     pub blocks: u32,
@@ -38,14 +39,14 @@ pub struct Chunk {
 }
 
 // A refusal: its number, and its place in the image.
-#[derive(Drop)]
+#[derive(Clone, Copy)]
 pub struct Refusal {
     pub number: u32,
     pub place: u64,
 }
 
 // What the chunk reader answers.
-#[derive(Drop)]
+#[derive(Clone, Copy)]
 pub enum ChunkRead {
     Chunk(Chunk, Cursor),
     Refused(Refusal),
@@ -53,7 +54,7 @@ pub enum ChunkRead {
 
 // The blocks that an accepted image counts: those of raw and fill chunks, of don't care chunks, and of chunks whose type is
 // not known.
-#[derive(Drop)]
+#[derive(Clone, Copy)]
 pub struct Counts {
     pub written: u32,
     pub dont_care: u32,
@@ -61,7 +62,7 @@ pub struct Counts {
 }
 
 // What the judge answers: accepted with its counts of blocks, or refused.
-#[derive(Drop)]
+#[derive(Clone, Copy)]
 pub enum Verdict {
     Accepted(Counts),
     Refused(Refusal),

@@ -1,5 +1,7 @@
 // Blocks of two images compared where they stand. A fill block is its 4 bytes repeated, and is never made: bytes repeat every
 // 4 exactly where each is as the one 4 before it.
+#![tactic(auto)]
+
 ghost use Rattle.std.specs.Prelude.{◌≡◌, ◌-◌, length};
 ghost use Rattle.sparse_blocks_rules.specs.Same.{alike, same_bytes_at, repeats_word, is_raw, same_block};
 

@@ -1,20 +1,22 @@
 // The scan of flat data for runs of blocks. A block's kind is a number here: 0 for none, 1 raw, 2 + w
 // fill with the word w. The scan of a block stops at the first word that differs. What is scanned is
 // the whole blocks from a place on; where there is none, the answer is 0.
+#![tactic(auto)]
+
 ghost use Rattle.std.specs.Prelude.{◌≡◌, ◌+◌, ◌*◌, ◌%◌, ◌≤◌, length};
 ghost use Rattle.sparse_write_rules.specs.Kinds.{stored_kind};
 ghost use Rattle.sparse_write_rules.specs.Numbered.{kind_numbered};
 ghost use Rattle.sparse_scan.specs.Scan.{whole_blocks, first_kind, leading, following, run_blocks, after_run};
 
 // So many blocks in front are alike, and the one after them is of the kind `next`, 0 where none is left.
-#[derive(Drop)]
+#[derive(Clone, Copy)]
 struct Alike {
     blocks: usize,
     next: u64,
 }
 
 // A run: its blocks and their bytes, and the kind of the block after it, 0 where none is left.
-#[derive(Drop)]
+#[derive(Clone, Copy)]
 pub struct Run {
     pub blocks: usize,
     pub len: usize,

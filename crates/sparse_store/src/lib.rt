@@ -1,4 +1,6 @@
 // Storing a sparse image on a lent partition: whole, or up to a limit of stored blocks.
+#![tactic(auto)]
+
 ghost use Rattle.std.specs.Prelude.{◌≡◌, length};
 ghost use Rattle.sparse_rules.specs.Answers.{answer, answer_of};
 ghost use Rattle.sparse_store_rules.specs.Store.{store, store_up_to};

@@ -1,5 +1,7 @@
 // The raw and the fill writer: each fills the part of a partition that it is lent, whatever its length. A byte past the end
 // of the image counts as 0.
+#![tactic(auto)]
+
 ghost use Rattle.std.specs.Prelude.{◌≡◌, ℕ, ◌+◌, min, ◌≤◌, ◌<◌, length, get_or};
 ghost use Rattle.sparse_rules.specs.Cells.{tab, raw_byte, fill_byte};
 

@@ -1,5 +1,7 @@
 // What one chunk stores on a lent partition, and how many of its blocks. Where the partition ends
 // before the chunk's stretch does, only the bytes that it has are stored.
+#![tactic(auto)]
+
 ghost use Rattle.std.specs.Prelude.{◌≡◌, cond, min};
 ghost use Rattle.sparse_rules.specs.Cells.{cells_by};
 ghost use Rattle.sparse_rules.specs.Counts.{writes};

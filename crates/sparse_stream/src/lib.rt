@@ -1,6 +1,8 @@
 // A sparse image that arrives in pieces: a judging pass, and a storing pass. A pass is told the lengths of the image and of
 // the partition, is fed pieces, and is finished; only finishing accepts. Its state goes in and comes out by value, and any
 // state at all may be handed in.
+#![tactic(auto)]
+
 ghost use Rattle.std.specs.Prelude.{◌≡◌, ◌+◌, ltb, length};
 ghost use Rattle.sparse_rules.specs.Answers.{answer_of};
 ghost use Rattle.sparse_stream_rules.specs.States.{begun, answer_now};
@@ -12,7 +14,7 @@ use sparse_stream_rules::{Come, Kept, Pass, Told, Walk};
 use sparse_stream_tests::{opening, refuse};
 
 // A call that finishes a pass: the pass afterwards, and its verdict.
-#[derive(Drop)]
+#[derive(Clone, Copy)]
 pub struct Finished {
     pub pass: Pass,
     pub verdict: Verdict,

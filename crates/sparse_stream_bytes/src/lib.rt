@@ -1,4 +1,6 @@
 // The state of a pass as 112 bytes, written and read. specs/Layout.antt has the layout. Any bytes at all are a state.
+#![tactic(auto)]
+
 ghost use Rattle.std.specs.Prelude.{◌≡◌, ◌++◌, length, replicate, take};
 ghost use Rattle.std.proofs.lemmas.List.Edits.{sets};
 ghost use Rattle.fields_rules.specs.Number.{packed};

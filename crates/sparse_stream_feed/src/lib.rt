@@ -1,5 +1,7 @@
 // Bytes fed to a pass, a stretch at a time: bytes that are passed over and raw data as far as the piece has them, a chunk
 // header or a fill word at once where it lies whole in the piece, and all others one by one. The piece is never copied.
+#![tactic(auto)]
+
 mod data;
 mod heads;
 

@@ -1,4 +1,6 @@
 // What bytes that come store on a lent partition: raw data as far as they came, a fill chunk whole once its word is there.
+#![tactic(auto)]
+
 ghost use Rattle.std.specs.Prelude.{◌≡◌};
 ghost use Rattle.sparse_stream_rules.specs.State.{gap};
 ghost use Rattle.sparse_stream_rules.specs.Laid.{fill_laid};

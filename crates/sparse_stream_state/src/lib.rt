@@ -1,4 +1,6 @@
 // What the state of a pass says: the header of the chunk that came last, its blocks, and where they lie.
+#![tactic(auto)]
+
 ghost use Rattle.std.specs.Prelude.{◌≡◌, ◌-◌, min};
 ghost use Rattle.sparse_stream_rules.specs.State.{kind_now, blocks_now, size_now, span_now, end_now, gap, data_by, stuck, in_data};
 

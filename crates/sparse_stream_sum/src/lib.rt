@@ -1,4 +1,6 @@
 // The checksum's state as the data of chunks come. Where the file header states no checksum, none is worked out.
+#![tactic(auto)]
+
 ghost use Rattle.std.specs.Prelude.{◌≡◌, true, false};
 ghost use Rattle.sparse_rules.specs.Counts.{writes};
 ghost use Rattle.sparse_rules.specs.Judge.{sum_stated};

@@ -1,5 +1,7 @@
 // The tests that the state of a pass makes as bytes come: of the file header, where a chunk begins or the image ends, and
 // of a chunk header; and the refusal that follows.
+#![tactic(auto)]
+
 ghost use Rattle.std.specs.Prelude.{◌≡◌, cond};
 ghost use Rattle.sparse_stream_rules.specs.State.{stop_or};
 ghost use Rattle.sparse_stream_rules.specs.Steps.{header_number, opened, arrival, arrived, settled, chunk_number};

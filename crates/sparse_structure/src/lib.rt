@@ -1,4 +1,6 @@
 // The structure of an image, by its chunk headers alone: the judge's first walk.
+#![tactic(auto)]
+
 ghost use Rattle.std.specs.Prelude.{◌≡◌, length};
 ghost use Rattle.sparse_rules.specs.Walk.{walk, origin};
 ghost use Rattle.sparse_rules.specs.Answers.{answer_of, answer_for};

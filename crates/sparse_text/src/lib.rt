@@ -1,4 +1,6 @@
 // The text that the lister prints for an input, line after line.
+#![tactic(auto)]
+
 ghost use Rattle.std.specs.Prelude.{◌≡◌, List, length};
 ghost use Rattle.text_rules.specs.Input.{partition};
 ghost use Rattle.text_rules.specs.Put.{Put};

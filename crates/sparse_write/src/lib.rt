@@ -2,6 +2,8 @@
 // image, so that a refusal stores nothing; the second puts its chunks, and the header after them.
 // The flat data are read three times at most: scanned twice, and copied where they are raw. The
 // checksum is worked out over raw data where they were put, and over a long fill run from its word.
+#![tactic(auto)]
+
 mod put;
 
 ghost use Rattle.std.specs.Prelude.{◌≡◌, true, ◌+◌, ◌*◌, ◌≤◌, length};
@@ -20,7 +22,7 @@ use sparse_scan::{first_kind, first_run};
 use sparse_write_rules::Outcome;
 
 // An image's length, and its number of chunks.
-#[derive(Drop)]
+#[derive(Clone, Copy)]
 struct Extent {
     bytes: usize,
     chunks: u32,

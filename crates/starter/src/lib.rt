@@ -1,6 +1,8 @@
 // The starter: Start once, the started slot's boot image, and the final command line. It takes a record by value and hands
 // one back beside its answer. starter_rules has the rules: specs/Line.antt the line, specs/Starter.antt what is answered
 // and left.
+#![tactic(auto)]
+
 ghost use Rattle.std.specs.Prelude.{◌≡◌, [], ◌∷◌};
 ghost use Rattle.rules.specs.Answer.{number_of};
 ghost use Rattle.slot_rules.specs.Answers as slots;

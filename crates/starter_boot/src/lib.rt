@@ -1,4 +1,6 @@
 // The started slot's image: located, and its line written.
+#![tactic(auto)]
+
 ghost use Rattle.std.specs.Prelude.{◌≡◌, [], ◌∷◌};
 ghost use Rattle.rules.specs.Answer.{accepted};
 ghost use Rattle.boot_rules.specs.Tests as boot;

@@ -1,5 +1,7 @@
 // The starter on a record that the loader keeps and lends: it calls the starter by value, stores the record that it
 // hands back, and gives its answer.
+#![tactic(auto)]
+
 ghost use Rattle.std.specs.Prelude.{◌≡◌, [], ◌∷◌};
 ghost use Rattle.starter_rules.specs.Starter.{effect_of, starter};
 

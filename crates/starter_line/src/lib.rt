@@ -1,4 +1,6 @@
 // The final command line, part after part.
+#![tactic(auto)]
+
 ghost use Rattle.std.specs.Prelude.{◌≡◌};
 ghost use Rattle.text_rules.specs.Put.{Put};
 ghost use Rattle.starter_rules.specs.Line.{letter, suffix, mode, line};

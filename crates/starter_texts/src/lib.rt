@@ -1,4 +1,6 @@
 // The texts that the starter reads: the command line in a boot image, and whether misc asks for recovery.
+#![tactic(auto)]
+
 ghost use Rattle.std.specs.Prelude.{◌≡◌, length};
 ghost use Rattle.text_rules.specs.Put.{Put};
 ghost use Rattle.starter_rules.specs.Line.{up_to_zero, text_in, image_line, begins, asks_recovery};

@@ -1,5 +1,6 @@
 // What other languages call. Numbers and bytes go in; the answer is 0 or the number of the refusal,
 // with the rest of it in a lent array of fixed length. include/tarpaulark.h says the same for C.
+#![tactic(auto)]
 
 ghost use Rattle.std.specs.Prelude.{◌≡◌, [], ◌∷◌, length};
 ghost use Rattle.rules.specs.First.{first};

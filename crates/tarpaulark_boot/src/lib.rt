@@ -1,4 +1,6 @@
 // The finders of a boot image's sections, with answers as numbers: 0 or the number of the refusal, and a lent array.
+#![tactic(auto)]
+
 ghost use Rattle.std.specs.Prelude.{◌≡◌};
 ghost use Rattle.rules.specs.Answer.{number_of};
 ghost use Rattle.boot_rules.specs.Tests as boot;

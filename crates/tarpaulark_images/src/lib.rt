@@ -1,4 +1,6 @@
 // An image judged, read, stored and written, with answers as numbers: 0 or the number of the refusal, and a lent array.
+#![tactic(auto)]
+
 ghost use Rattle.std.specs.Prelude.{◌≡◌, length};
 ghost use Rattle.rules.specs.First.{first};
 ghost use Rattle.rules.specs.Answer.{number_of};

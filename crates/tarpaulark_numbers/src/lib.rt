@@ -1,4 +1,6 @@
 // The answers as numbers: 0 or the refusal's number, and an array with place and counts.
+#![tactic(auto)]
+
 ghost use Rattle.std.specs.Prelude.{◌≡◌};
 ghost use Rattle.rules.specs.Answer.{number_of};
 ghost use Rattle.boot_rules.specs.Tests as boot;

@@ -1,4 +1,6 @@
 // Two images compared and joined, with answers as numbers: 0 or the number of the refusal, and a lent array.
+#![tactic(auto)]
+
 ghost use Rattle.std.specs.Prelude.{◌≡◌, length};
 ghost use Rattle.rules.specs.Answer.{number_of};
 ghost use Rattle.sparse_blocks_rules.specs.Pairs.{refused_image};

@@ -1,5 +1,7 @@
 // The passes over a state in lent bytes, with answers as numbers: 0 or the number of the refusal, and an array.
 // Any bytes at all are a state.
+#![tactic(auto)]
+
 ghost use Rattle.std.specs.Prelude.{◌≡◌, length};
 ghost use Rattle.sparse_rules.specs.Answers.{answer_of};
 ghost use Rattle.sparse_stream_rules.specs.States.{begun, answer_now};

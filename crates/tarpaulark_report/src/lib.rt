@@ -1,4 +1,6 @@
 // A report in lent numbers: an image counted, and another report added.
+#![tactic(auto)]
+
 ghost use Rattle.std.specs.Prelude.{◌≡◌};
 ghost use Rattle.report_rules.specs.Reports.{added, counted};
 ghost use Rattle.tarpaulark_report.specs.Numbers.{report_numbers, report_in};

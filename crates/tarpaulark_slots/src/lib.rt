@@ -1,4 +1,6 @@
 // The slot operations over the bytes of a lent record, with their answers as numbers in a lent array.
+#![tactic(auto)]
+
 ghost use Rattle.std.specs.Prelude.{◌≡◌, [], ◌∷◌};
 ghost use Rattle.slot_on_bytes.specs.OnBytes.{on_bytes, fresh_bytes, bytes_refusal, bytes_startable};
 

@@ -1,4 +1,6 @@
 // The starter over the bytes of a lent record, with its answer as numbers in a lent array.
+#![tactic(auto)]
+
 ghost use Rattle.std.specs.Prelude.{◌≡◌, [], ◌∷◌};
 ghost use Rattle.rules.specs.Answer.{accepted, number_of};
 ghost use Rattle.starter_rules.specs.Starter.{starts, answer_of};

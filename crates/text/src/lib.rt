@@ -2,6 +2,8 @@
 //
 // Nothing is stored past the buffer's end; what would stand there is counted all the same, so that the answer says
 // how long a text is whatever room it had.
+#![tactic(auto)]
+
 ghost use Rattle.std.specs.Prelude.{◌≡◌, [], ◌∷◌};
 ghost use Rattle.std.proofs.lemmas.List.Edits.{sets};
 ghost use Rattle.text_rules.specs.Words.{decimal, labelled, line};

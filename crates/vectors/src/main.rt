@@ -3,6 +3,8 @@
 // The arguments are the files of the groups, in the order of the constants below. The cases and the lines that must
 // come out are made by tests/reference/vectors.py, which says how a case is laid out; nothing here knows what a
 // right answer is.
+#![tactic(auto)]
+
 mod crc_cases;
 mod field_cases;
 mod image_cases;

@@ -73,7 +73,7 @@ fn compared(state: u32, rest: &[u8]) -> u32 {
 }
 
 // A state, and the length of a joined image, 0 where the joining was refused.
-#[derive(Drop)]
+#[derive(Clone, Copy)]
 struct Made {
     state: u32,
     len: usize,
