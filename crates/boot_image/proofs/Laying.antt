@@ -5,6 +5,8 @@ use mathlib.Core.Bool.{true}
 use mathlib.Core.List.{List}
 use Prim.Native.Nat.{ℕ, suc, ◌+◌, ◌≤◌, ◌<◌}
 use native.Mathlib.Omega.{arith}
+use mir.Val.{Fits}
+use mir.Syntax.{w8}
 use lib.ListN.{get_or}
 use borrow.Author.Tests.{lt-ltb, le-ltb}
 use Rattle.boot_rules.specs.declared.Field.{Field}
@@ -34,6 +36,10 @@ pub record Known (s : List ℕ) (k : ℕ) (r : Row) : Type 0 where
   pub page : k ≡ page_in s
   pub right : is_page (page_in s) ≡ true
   pub row : r ≡ row_in s
+
+-- a slice's elements are bytes
+pub known : {s : List ℕ} {k : ℕ} {r : Row} → ((i : ℕ) → Fits w8 (get_or s i 0)) → k ≡ page_in s → is_page (page_in s) ≡ true → r ≡ row_in s → Known s k r
+known b p h e = record { small = λ i. omega (arith, b i); page = p; right = h; row = e }
 
 module _ {s : List ℕ} {k : ℕ} {r : Row} (known : Known s k r) where
   -- the step over section i from where it begins

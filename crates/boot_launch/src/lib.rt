@@ -29,6 +29,7 @@ fn unwanted(rule: Rule, os: u32) -> bool
 
 // The first refusal by a rule of an image with this refusal of its own, or 0, this version and this os version; 0 where
 // there is none.
+#[tactic(auto, unfolding(boot_launch_rules::specs::Tests::launch_tests))]
 fn refusal(rule: Rule, own: u32, version: u32, os: u32) -> u32
     ensures { result ≡ first (launch_tests rule own version os) }
 {

@@ -23,7 +23,7 @@ pub fn empty() -> Report
 
 // A report with one image more, judged for a partition of so many bytes.
 pub fn count(report: Report, image: &[u8], partition_len: u64) -> Counted
-    ensures { result ≡ counted report (record { image = image.entry.now; room = partition_len }) }
+    ensures { result ≡ counted report (record { image = image.now; room = partition_len }) }
 {
     let own = report_image::report_of(image, partition_len);
     add(report, own)

@@ -62,7 +62,7 @@ fn refused(number: u32) -> Report
 
 // The report of one image, judged for a partition of so many bytes.
 pub fn report_of(image: &[u8], partition_len: u64) -> Report
-    ensures { result ≡ report_of (record { image = image.entry.now; room = partition_len } ∷ []) }
+    ensures { result ≡ report_of (record { image = image.now; room = partition_len } ∷ []) }
 {
     let verdict = sparse_judge::judge(image, partition_len);
     match verdict {

@@ -109,6 +109,7 @@ pub fn start(r: Record) -> Changed
 }
 
 // The shape of every operation on a slot: 31, 32, or the slot, which was s, becomes t, and m is current.
+#[tactic(auto, using(slot_rules::proofs::Laws::on_slot_refused))]
 fn on_slot(r: Record, slot: u8, s: Slot, t: Slot, m: u8) -> Changed
     requires { s ≡ slot_at r slot }
     ensures { change_of result ≡ on_slot r slot t m }

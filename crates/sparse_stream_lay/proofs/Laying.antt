@@ -1,17 +1,21 @@
 -- What a stretch of bytes stores, by what the code has found of the state.
 -- Assumes nothing.
 use mathlib.Core.Path.{◌≡◌, refl, sym, ap, ◌∙◌}
-use mathlib.Core.Bool.{Bool, true, false, not, ◌&&◌}
+use mathlib.Core.Bool.{Bool, true, false, ◌&&◌}
 use mathlib.Core.Option.{some}
 use mathlib.Core.List.{List, [], ◌∷◌, map, append-nil}
 use Prim.Native.Nat.{ℕ, ◌+◌, ◌-◌, ◌≤◌}
 use native.Mathlib.Omega.{arith}
 use lib.Dec.{eqb}
-use lib.ListN.{length, get_or, set, drop_of_length-le, length-map}
-use lib.Seq.{take-length, sets, sets-eq}
 use mir.Val.{Val}
 use denote.Laws.{Is}
 use denote.Struct.Laws as LL
+use Rattle.sparse_stream_rules.specs.contracts.Pass as P
+use Rattle.sparse_stream_rules.proofs.Pass.TheLaws as P'
+use Rattle.sparse_stream_rules.specs.contracts.Kept as K
+use Rattle.sparse_stream_rules.proofs.Kept.TheLaws as K'
+use lib.ListN.{length, get_or, set, drop_of_length-le}
+use lib.Seq.{take-length, sets, sets-eq}
 use borrow.Author.Tests.{eqb-true, eq-eqb, ne_eqb}
 use Rattle.rules.proofs.Tests.{both}
 use Rattle.sparse_rules.specs.declared.Kind.{Kind}
@@ -20,10 +24,6 @@ use Rattle.sparse_rules.specs.Cells.{cells_by}
 use Rattle.sparse_rules.proofs.Cells.{cells_raw}
 use Rattle.sparse_store_rules.specs.Store.{laid}
 use Rattle.sparse_stream_rules.specs.declared.Pass.{Pass}
-use Rattle.sparse_stream_rules.specs.contracts.Pass as P
-use Rattle.sparse_stream_rules.proofs.Pass.TheLaws as P'
-use Rattle.sparse_stream_rules.specs.contracts.Kept as K
-use Rattle.sparse_stream_rules.proofs.Kept.TheLaws as K'
 use Rattle.sparse_stream_rules.specs.State.{kind_now, span_now, end_now, gap, in_data}
 use Rattle.sparse_stream_rules.specs.Steps.{word_kept}
 use Rattle.sparse_stream_rules.specs.Laid.{fill_laid}
@@ -42,8 +42,7 @@ last_laid x b p g = let e : 4 - gap x ≡ 3 = omega arith in rw e
 -- the fill word of a state that a function is passed has four bytes
 pub word_four : (x : Pass) (vs : List Val) → Is P.the_row x vs → length x.kept.word ≡ 4
 word_four x vs is =
-    sym (length-map x.kept.word _)
-    ∙ (LL.owed K.the_type K'.the_laws x.kept _ (LL.owed P.the_type P'.the_laws x vs is).1.1.1.1.0).1.1.0.1.0.1
+    (LL.owed K.the_type K'.the_laws x.kept _ (LL.owed P.the_type P'.the_laws x vs is).1.1.1.1.0).1.1.0.1.0.1
 
 -- four bytes stored on a word of four are the word
 whole_word : (word bs : List ℕ) → length word ≡ 4 → length bs ≡ 4 → sets word 0 bs ≡ bs
@@ -55,15 +54,6 @@ whole_word word bs w l =
 raw_all : (bs : List ℕ) → cells_by bs Raw 0 (length bs) ≡ map some bs
 raw_all bs = cells_raw bs 0 (length bs) (omega arith) ∙ ap (map some) (take-length bs)
 
--- a test whose opposite holds fails, and one whose opposite fails holds
-fails : (r : Bool) → not r ≡ true → r ≡ false
-fails true f = sym f
-fails false f = refl
-
-holds : (r : Bool) → not r ≡ false → r ≡ true
-holds true f = refl
-holds false f = sym f
-
 -- no bytes store nothing
 pub lay_empty : (x : Pass) (bs p : List ℕ) → length bs ≡ 0 → p ≡ stretch_laid x bs p
 unfolding stretch_laid
@@ -71,10 +61,10 @@ lay_empty x [] p e = refl
 lay_empty x (b ∷ bs) p e = absurd (omega arith)
 
 -- nor do bytes that are none of data
-pub lay_outside : (x : Pass) (bs p : List ℕ) {r : Bool} → r ≡ in_data x → not r ≡ true → p ≡ stretch_laid x bs p
+pub lay_outside : (x : Pass) (bs p : List ℕ) {r : Bool} → r ≡ in_data x → r ≡ false → p ≡ stretch_laid x bs p
 unfolding stretch_laid
 lay_outside x [] p e f = refl
-lay_outside x (b ∷ bs) p e f = let g : in_data x ≡ false = sym e ∙ fails _ f in rw g
+lay_outside x (b ∷ bs) p e f = let g : in_data x ≡ false = sym e ∙ f in rw g
 
 -- bytes of data, by their kind
 inside : (x : Pass) (bs p q : List ℕ) → (length bs ≡ 0 → ⊥) → in_data x ≡ true
@@ -83,9 +73,9 @@ unfolding stretch_laid
 inside x [] p q n w f = absurd (n refl)
 inside x (b ∷ bs) p q n w f = f b bs refl ∙ rw w
 
-module _ (x : Pass) (bs p : List ℕ) (n : length bs ≡ 0 → ⊥) {r : Bool} (er : r ≡ in_data x) (f : not r ≡ false) {kind : Kind} (ek : kind ≡ kind_now x) {room : ℕ} (eg : room ≡ gap x) where
+module _ (x : Pass) (bs p : List ℕ) (n : length bs ≡ 0 → ⊥) {r : Bool} (er : r ≡ in_data x) (f : r ≡ true) {kind : Kind} (ek : kind ≡ kind_now x) {room : ℕ} (eg : room ≡ gap x) where
   w : in_data x ≡ true
-  w = sym er ∙ holds r f
+  w = sym er ∙ f
 
   -- raw data
   pub lay_raw : (end from : ℕ) → kind ≡ Raw → end ≡ end_now x → from ≡ end - room → laid from (cells_by bs Raw 0 (length bs)) p ≡ stretch_laid x bs p

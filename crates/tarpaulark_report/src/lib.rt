@@ -40,8 +40,8 @@ fn numbers_of(r: Report) -> [u64; REPORT]
 
 // Counts an image, judged for a partition of so many bytes: 0, or 61 and the report stays.
 pub fn count(report: &mut [u64; REPORT], image: &[u8], partition_len: u64) -> u32
-    ensures { (result ≡ (counted (report_in report.old) (record { image = image.entry.now; room = partition_len })).number)
-        × (report.new ≡ report_numbers (counted (report_in report.old) (record { image = image.entry.now; room = partition_len })).report) }
+    ensures { (result ≡ (counted (report_in report.old) (record { image = image.now; room = partition_len })).number)
+        × (report.new ≡ report_numbers (counted (report_in report.old) (record { image = image.now; room = partition_len })).report) }
 {
     let given = *report;
     let counted = report::count(report_in(given), image, partition_len);

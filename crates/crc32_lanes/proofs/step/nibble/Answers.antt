@@ -1,0 +1,7 @@
+-- `crc32_lanes::step::nibble` meets its contract, by the table's rule.
+-- Assumes nothing.
+use Rattle.crc32_rules.proofs.Nibble.{nibble}
+use Rattle.crc32_lanes.proofs.step.nibble.Goals as goal
+
+pub returns : goal.returns
+returns c = nibble c.args.table.now c.requires c.args.state

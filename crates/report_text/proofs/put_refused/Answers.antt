@@ -1,0 +1,13 @@
+-- `report_text::put_refused` meets its contract.
+-- Assumes nothing.
+use native.Mathlib.Omega.{arith}
+use Rattle.text_rules.proofs.Putting.{put_nothing}
+use Rattle.report_rules.proofs.Texts.{line_none, line_there}
+use Rattle.report_text.proofs.put_refused.Goals as goal
+
+pub returns-then-count-eq0 : goal.returns-then-count-eq0
+returns-then-count-eq0 c = rw (line_none c.args.number c.args.count c.if-count-eq0.true) (put_nothing (omega arith))
+
+pub returns : goal.returns
+returns c =
+    rw (line_there c.args.number c.args.count c.if-count-eq0.false) c.put_pair.ensures

@@ -1,0 +1,8 @@
+-- `sparse_lines::put_header` meets its contract.
+-- Assumes nothing.
+use Rattle.sparse_list_rules.specs.Lines.{header_line}
+use Rattle.sparse_lines.proofs.put_header.Goals as goal
+
+pub returns : goal.returns
+unfolding header_line
+returns c = c.put_triple.ensures

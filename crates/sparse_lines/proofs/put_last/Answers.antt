@@ -1,0 +1,8 @@
+-- `sparse_lines::put_last` meets its contract.
+-- Assumes nothing.
+use Rattle.sparse_list_rules.specs.Lines.{last_line}
+use Rattle.sparse_lines.proofs.put_last.Goals as goal
+
+pub returns : goal.returns
+unfolding last_line
+returns c = c.put_triple.ensures

@@ -1,0 +1,8 @@
+-- `sparse_lines::put_refused` meets its contract.
+-- Assumes nothing.
+use Rattle.sparse_list_rules.specs.Lines.{refused_line}
+use Rattle.sparse_lines.proofs.put_refused.Goals as goal
+
+pub returns : goal.returns
+unfolding refused_line
+returns c = c.put_pair.ensures
