@@ -1,46 +1,51 @@
 // The totals over the images of a folder: reads 1.img, 2.img and on, and prints their report.
 #![tactic(auto)]
 
-use libc::STDOUT_FILENO;
 use report_rules::{Report, Turn};
+use std::fs::File;
+use std::io;
+use std::io::{ErrorKind, Read, Write};
+use std::rt::Files;
 
 // The file of a number, counted; one that is missing ends it. One byte more than an image may have is read, so that a
-// longer file is seen.
-fn take(report: Report, index: u64) -> Turn {
+// longer file is seen. A read that fails ends the file as its end does, so a folder is a file of no bytes; no memory for the
+// bytes is a failure of its own.
+fn take(rt: &(impl Files + AllocGlobal), report: Report, index: u64) -> io::Result<Turn> {
     let mut name = [0u8; 24];
     let len = report_folder::put_name(&mut name, index);
-    let fd = os::open_read(&name[..len]);
-    if fd < 0 {
-        return Turn {
+    let path = str::from_utf8(&name[..len]).unwrap();
+    let Ok(file) = File::open(rt, path) else {
+        return Ok(Turn {
             more: false,
             report,
-        };
+        });
+    };
+    let mut bytes = Vec::new(rt.alloc());
+    if let Err(error) = file.take(65537).read_to_end(&mut bytes) {
+        if error.kind() == ErrorKind::OutOfMemory {
+            return Err(error);
+        }
     }
-    let mut file = [0u8; 65537];
-    let n = io::read_full(fd, &mut file);
-    libc::close(fd);
-    report_folder::next(report, &file[..n])
+    Ok(report_folder::next(report, &bytes))
 }
 
 // The report of the files, one after the other.
-fn totals() -> Report {
+fn totals(rt: &(impl Files + AllocGlobal)) -> io::Result<Report> {
     let mut report = report::empty();
-    let mut more = true;
-    let mut index: u64 = 1;
-    while more & (index < u64::MAX) {
-        let turn = take(report, index);
-        let after = turn.report;
-        report = after;
-        more = turn.more;
-        index = index + 1;
+    for index in 1..u64::MAX {
+        let turn = take(rt, report, index)?;
+        report = turn.report;
+        if !turn.more {
+            break;
+        }
     }
-    report
+    Ok(report)
 }
 
 // The buffer has room for every text (`text_most` of report_rules).
-fn main() {
-    let report = totals();
+fn main(rt: HostRuntime) -> io::Result<()> {
+    let report = totals(&rt)?;
     let mut text = [0u8; 486];
     let len = report_text::put_text(&mut text, report);
-    io::write_all(STDOUT_FILENO, &text[..len]);
+    rt.stdout().write_all(&text[..len])
 }

@@ -16,8 +16,10 @@ mod start_cases;
 mod store_cases;
 mod support;
 
-use libc::STDOUT_FILENO;
-use support::{part, past, room, value};
+use std::fs::File;
+use std::io::{Read, Write};
+use std::{env, io};
+use support::{part, past, value};
 
 // The groups of cases.
 const CRC: usize = 1;
@@ -49,49 +51,48 @@ const JOIN: usize = 13;
 const REPORT: usize = 14;
 
 // The lines of a group's cases, one after the other: the group's name, the case's number, its values.
-fn cases(group: usize, name: &[u8], file: &[u8]) {
+fn cases(line: &mut impl Write, group: usize, name: &[u8], file: &[u8]) -> io::Result<()> {
     let mut at: usize = 0;
     let mut index: u64 = 0;
     while at < file.len() {
-        io::write_all(STDOUT_FILENO, name);
-        value(index);
+        line.write_all(name)?;
+        value(line, index)?;
         let rest = part(file, at, file.len());
         let len = match group {
-            CRC => crc_cases::case(rest),
-            FIELDS => field_cases::case(rest),
-            SLOTS => slot_cases::case(rest),
-            SLOT_BLOCKS => slot_cases::block(rest),
-            BOOT => image_cases::boot(rest),
-            LAUNCH => image_cases::launch(rest),
-            START => start_cases::case(rest),
-            SPARSE => image_cases::sparse(rest),
-            STORE | PASSES => store_cases::case(rest),
-            WRITE => image_cases::write(rest),
-            COMPARE => pair_cases::block(rest, 16, false),
-            JOIN => pair_cases::block(rest, 32, true),
-            _ => report_cases::case(rest),
+            CRC => crc_cases::case(line, rest)?,
+            FIELDS => field_cases::case(line, rest)?,
+            SLOTS => slot_cases::case(line, rest)?,
+            SLOT_BLOCKS => slot_cases::block(line, rest)?,
+            BOOT => image_cases::boot(line, rest)?,
+            LAUNCH => image_cases::launch(line, rest)?,
+            START => start_cases::case(line, rest)?,
+            SPARSE => image_cases::sparse(line, rest)?,
+            STORE | PASSES => store_cases::case(line, rest)?,
+            WRITE => image_cases::write(line, rest)?,
+            COMPARE => pair_cases::block(line, rest, 16, false)?,
+            JOIN => pair_cases::block(line, rest, 32, true)?,
+            _ => report_cases::case(line, rest)?,
         };
-        io::write_all(STDOUT_FILENO, b"\n");
+        line.write_all(b"\n")?;
         at = past(file, at, len);
         index = index + 1;
     }
+    Ok(())
 }
 
-// The groups, each from its file, whose name is the group's and `.bin`.
-fn main() {
+// The groups, each from its file, whose name is the group's and `.bin`. As much of a file is read as room has.
+fn main(rt: HostRuntime) -> io::Result<()> {
+    let mut line = rt.stdout();
     for group in CRC..REPORT + 1 {
-        let mut path = io::buffer();
-        let len = os::arg(group, &mut path);
-        let fd = os::open_read(&path[..len]);
-        if fd < 0 {
-            os::fail(&path[..len]);
-            return;
-        }
-        let mut file = room();
-        let n = io::read_full(fd, &mut file);
-        libc::close(fd);
-        if 4 <= len {
-            cases(group, part(&path, 0, len - 4), &file[..n]);
+        let Some(path) = env::args(&rt)?.nth(group) else {
+            return Ok(());
+        };
+        let mut file = Vec::new(rt.alloc());
+        File::open(&rt, &path)?.take(262144).read_to_end(&mut file)?;
+        let name = path.as_bytes();
+        if 4 <= name.len() {
+            cases(&mut line, group, part(name, 0, name.len() - 4), &file)?;
         }
     }
+    Ok(())
 }

@@ -2,6 +2,8 @@
 ghost use Rattle.std.specs.Prelude.{◌≤◌};
 
 use crate::support::{part, past, prepare, value};
+use std::io;
+use std::io::Write;
 
 // The bytes before a case's images: their two lengths, and how many numbers or bytes are lent.
 const HEAD: usize = 12;
@@ -118,7 +120,12 @@ fn size(rest: &[u8]) -> usize {
 
 // Prints the checksum over the up to so many cases at the start of rest, compared or joined, and answers how many bytes they
 // take.
-pub(crate) fn block(rest: &[u8], cases: u32, join: bool) -> usize {
+pub(crate) fn block(
+    line: &mut impl Write,
+    rest: &[u8],
+    cases: u32,
+    join: bool,
+) -> io::Result<usize> {
     let mut state = crc32::start();
     let mut at: usize = 0;
     let mut left = cases;
@@ -132,6 +139,6 @@ pub(crate) fn block(rest: &[u8], cases: u32, join: bool) -> usize {
         at = past(rest, at, size(case));
         left = left - 1;
     }
-    value(crc32::finish(state) as u64);
-    at
+    value(line, crc32::finish(state) as u64)?;
+    Ok(at)
 }

@@ -1,5 +1,7 @@
 // The calls of a pass, which is fed pieces of the case and judges or stores them.
 use crate::support::{least, part, prepare, value, verdict};
+use std::io;
+use std::io::Write;
 
 // The bytes of a step that begins a pass: form, the lengths that it is told.
 const BEGIN: usize = 20;
@@ -10,17 +12,18 @@ const CALL: usize = 8;
 // One step: begins a pass, and fills the partition anew; or goes on with it, and prints the answer and the checksum of
 // what was lent. Answers how many bytes the step takes.
 pub(crate) fn take_call(
+    line: &mut impl Write,
     case: &[u8],
     step: &[u8],
     pass: &mut [u8; 112],
     partition: &mut [u8],
-) -> usize {
+) -> io::Result<usize> {
     let form = fields_read::read16(step, 0);
     if form == 2 {
         let length = fields_read::read64(step, 4);
         tarpaulark::tarpaulark_pass_begin(length, fields_read::read64(step, 12), pass);
         prepare(partition, (fields_read::read32(case, 8) % 256) as u8, 7);
-        return BEGIN;
+        return Ok(BEGIN);
     }
     let at = fields_read::read16(step, 4) as usize;
     let piece = part(case, at, fields_read::read16(step, 6) as usize);
@@ -29,25 +32,31 @@ pub(crate) fn take_call(
     match form {
         3 => {
             let mut out = [0u64; 1];
-            value(tarpaulark::tarpaulark_pass_judge_piece(pass, piece, &mut out) as u64);
-            value(out[0]);
+            value(
+                line,
+                tarpaulark::tarpaulark_pass_judge_piece(pass, piece, &mut out) as u64,
+            )?;
+            value(line, out[0])?;
         }
         4 => {
             let mut out = [0u64; 4];
             let number = tarpaulark::tarpaulark_pass_judge_finish(pass, &mut out);
-            verdict(number, &out);
+            verdict(line, number, &out)?;
         }
         5 => {
             let mut out = [0u64; 1];
-            value(tarpaulark::tarpaulark_pass_store_piece(pass, piece, lent, &mut out) as u64);
-            value(out[0]);
+            value(
+                line,
+                tarpaulark::tarpaulark_pass_store_piece(pass, piece, lent, &mut out) as u64,
+            )?;
+            value(line, out[0])?;
         }
         _ => {
             let mut out = [0u64; 4];
             let number = tarpaulark::tarpaulark_pass_store_finish(pass, lent, &mut out);
-            verdict(number, &out);
+            verdict(line, number, &out)?;
         }
     }
-    value(crc32::checksum(lent) as u64);
-    CALL
+    value(line, crc32::checksum(lent) as u64)?;
+    Ok(CALL)
 }

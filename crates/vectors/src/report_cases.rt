@@ -1,5 +1,7 @@
 // Reports: an image counted into one, and two added.
 use crate::support::{build, numbers_on, part, past, value};
+use std::io;
+use std::io::Write;
 
 // How many numbers a report has.
 const REPORT: usize = 16;
@@ -26,34 +28,34 @@ fn summed(report: &[u64; REPORT]) -> u32 {
 
 // Counts the image at the start of rest, for the partition length before it, into a report. Prints the values, and answers how
 // many bytes the two take.
-fn count(report: &mut [u64; REPORT], rest: &[u8]) -> usize {
+fn count(line: &mut impl Write, report: &mut [u64; REPORT], rest: &[u8]) -> io::Result<usize> {
     let form = part(rest, 8, rest.len());
-    let mut buf = io::large_buffer();
+    let mut buf = [0u8; 65536];
     let taken = build(form, &mut buf);
     let image = part(&buf, 0, fields_read::read32(form, 0) as usize);
     let number = tarpaulark::tarpaulark_report_count(report, image, fields_read::read64(rest, 0));
-    value(number as u64);
-    value(summed(report) as u64);
-    past(rest, 8, taken)
+    value(line, number as u64)?;
+    value(line, summed(report) as u64)?;
+    Ok(past(rest, 8, taken))
 }
 
 // Adds the report at the start of rest to a report. Prints the values, and answers how many bytes it takes.
-fn add(report: &mut [u64; REPORT], rest: &[u8]) -> usize {
+fn add(line: &mut impl Write, report: &mut [u64; REPORT], rest: &[u8]) -> io::Result<usize> {
     let other = read(rest);
     let number = tarpaulark::tarpaulark_report_add(report, &other);
-    value(number as u64);
-    value(summed(report) as u64);
-    BYTES
+    value(line, number as u64)?;
+    value(line, summed(report) as u64)?;
+    Ok(BYTES)
 }
 
 // Prints the values of the case at the start of rest, and answers how many bytes it takes.
-pub(crate) fn case(rest: &[u8]) -> usize {
+pub(crate) fn case(line: &mut impl Write, rest: &[u8]) -> io::Result<usize> {
     let mut report = read(part(rest, 4, BYTES));
     let given = part(rest, HEAD, rest.len());
     let taken = if fields_read::read32(rest, 0) == 0 {
-        count(&mut report, given)
+        count(line, &mut report, given)?
     } else {
-        add(&mut report, given)
+        add(line, &mut report, given)?
     };
-    past(rest, HEAD, taken)
+    Ok(past(rest, HEAD, taken))
 }

@@ -1,5 +1,7 @@
 // The slot record: every operation on the bytes of a record.
 use crate::support::{part, value};
+use std::io;
+use std::io::Write;
 
 // The bytes of a record.
 const RECORD: usize = 22;
@@ -46,13 +48,13 @@ fn outcome(operation: u32, argument: u32, bytes: &[u8]) -> [u8; VALUES] {
 }
 
 // Prints the values of the case at the start of rest, and answers how many bytes it takes.
-pub(crate) fn case(rest: &[u8]) -> usize {
+pub(crate) fn case(line: &mut impl Write, rest: &[u8]) -> io::Result<usize> {
     let head = fields_read::read16(rest, 0) as u32;
     let all = outcome(head % 256, head / 256, part(rest, 2, RECORD));
     for i in 0usize..VALUES {
-        value(all[i] as u64);
+        value(line, all[i] as u64)?;
     }
-    CASE
+    Ok(CASE)
 }
 
 // The checksum's state after the values of the seven operations, each with the arguments 0 to 4, on the record.
@@ -67,7 +69,7 @@ fn summed(state: u32, record: &[u8]) -> u32 {
 }
 
 // Prints the checksum over the up to 64 records at the start of rest, and answers how many bytes they take.
-pub(crate) fn block(rest: &[u8]) -> usize {
+pub(crate) fn block(line: &mut impl Write, rest: &[u8]) -> io::Result<usize> {
     let records = part(rest, 0, 64 * RECORD);
     let mut state = crc32::start();
     let mut done: usize = 0;
@@ -75,6 +77,6 @@ pub(crate) fn block(rest: &[u8]) -> usize {
         state = summed(state, part(records, done, RECORD));
         done = done + RECORD;
     }
-    value(crc32::finish(state) as u64);
-    64 * RECORD
+    value(line, crc32::finish(state) as u64)?;
+    Ok(64 * RECORD)
 }

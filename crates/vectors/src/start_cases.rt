@@ -1,5 +1,7 @@
 // The starter: a record, four images, misc, the loader's line and some space.
 use crate::support::{least, numbers_on, part, prepare, value};
+use std::io;
+use std::io::Write;
 
 // The bytes of a record.
 const RECORD: usize = 22;
@@ -21,6 +23,7 @@ fn summed(out: &[u64; ANSWER], record: &[u8; RECORD], space: &[u8]) -> u32 {
 
 // Prints the values of a case whose parts these are.
 fn print(
+    to: &mut impl Write,
     record: &mut [u8; RECORD],
     a: &[u8],
     b: &[u8],
@@ -29,18 +32,18 @@ fn print(
     misc: &[u8],
     line: &[u8],
     space: &mut [u8],
-) {
+) -> io::Result<()> {
     let mut out = [0u64; ANSWER];
     let number = tarpaulark::tarpaulark_start(record, a, b, c, d, misc, line, space, &mut out);
-    value(number as u64);
-    value(out[0]);
-    value(out[1]);
-    value(out[2]);
-    value(summed(&out, record, space) as u64);
+    value(to, number as u64)?;
+    value(to, out[0])?;
+    value(to, out[1])?;
+    value(to, out[2])?;
+    value(to, summed(&out, record, space) as u64)
 }
 
 // Prints the values of the case at the start of rest, and answers how many bytes it takes.
-pub(crate) fn case(rest: &[u8]) -> usize {
+pub(crate) fn case(to: &mut impl Write, rest: &[u8]) -> io::Result<usize> {
     let mut record = [0u8; RECORD];
     fields_write::copy(&mut record, 0, part(rest, 0, RECORD));
     let b = HEAD + fields_read::read32(rest, 22) as usize;
@@ -54,6 +57,7 @@ pub(crate) fn case(rest: &[u8]) -> usize {
     let space = &mut room[..n];
     prepare(space, 11, 5);
     print(
+        to,
         &mut record,
         part(rest, HEAD, b - HEAD),
         part(rest, b, c - b),
@@ -62,6 +66,6 @@ pub(crate) fn case(rest: &[u8]) -> usize {
         part(rest, misc, line - misc),
         part(rest, line, end - line),
         space,
-    );
-    end
+    )?;
+    Ok(end)
 }

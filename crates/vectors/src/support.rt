@@ -3,7 +3,8 @@
 ghost use Rattle.std.specs.Prelude.{◌≡◌, ◌<◌, length};
 ghost use Rattle.io.specs.Counts.{IsPrefixLen};
 
-use libc::STDOUT_FILENO;
+use std::io;
+use std::io::Write;
 
 // The `len` bytes of file at `at`, or as many of them as there are.
 pub(crate) fn part(file: &[u8], at: usize, len: usize) -> &[u8] {
@@ -57,9 +58,8 @@ pub(crate) fn prepare(out: &mut [u8], first: u8, step: u8) {
 }
 
 // Prints a value of the line, after a space.
-pub(crate) fn value(n: u64) {
-    io::write_all(STDOUT_FILENO, b" ");
-    io::print_decimal(STDOUT_FILENO, n);
+pub(crate) fn value(line: &mut impl Write, n: u64) -> io::Result<()> {
+    write!(line, " {n}")
 }
 
 // What numbers from a place on make of a checksum's state, 8 bytes each, low byte first.
@@ -74,12 +74,12 @@ pub(crate) fn numbers_on(state: u32, numbers: &[u64], from: usize) -> u32 {
 }
 
 // Prints the number of a verdict, its place, and the blocks written, don't care and unknown.
-pub(crate) fn verdict(number: u32, out: &[u64; 4]) {
-    value(number as u64);
-    value(out[0]);
-    value(out[1]);
-    value(out[2]);
-    value(out[3]);
+pub(crate) fn verdict(line: &mut impl Write, number: u32, out: &[u64; 4]) -> io::Result<()> {
+    value(line, number as u64)?;
+    value(line, out[0])?;
+    value(line, out[1])?;
+    value(line, out[2])?;
+    value(line, out[3])
 }
 
 // Builds an image over zeros from its form: length, number of patches, and each patch with its offset.
