@@ -1,5 +1,6 @@
-// What other languages call. Numbers and bytes go in; the answer is 0 or the number of the refusal,
-// with the rest of it in a lent array of fixed length. include/tarpaulark.h says the same for C.
+// What other languages call, as a library: tarpaulark_c exports each function under its own name. Numbers and bytes go in; the
+// answer is 0 or the number of the refusal, with the rest of it in a lent array of fixed length. include/tarpaulark.h says the
+// same for C.
 #![tactic(auto)]
 
 ghost use Rattle.std.specs.Prelude.{◌≡◌, [], ◌∷◌, length};
@@ -30,8 +31,7 @@ use slot_rules::Op;
 use tarpaulark_report::REPORT;
 
 // Judges an image for a partition of so many bytes. Answers place, then blocks written, don't care, unknown.
-#[unsafe(no_mangle)]
-pub extern "C" fn tarpaulark_judge(image: &[u8], partition_len: u64, out: &mut [u64; 4]) -> u32
+pub fn tarpaulark_judge(image: &[u8], partition_len: u64, out: &mut [u64; 4]) -> u32
     ensures { (result ≡ number_of (answer image.now (length image.now) partition_len))
         × (out.new ≡ verdict_numbers (answer image.now (length image.now) partition_len)) }
 {
@@ -40,8 +40,7 @@ pub extern "C" fn tarpaulark_judge(image: &[u8], partition_len: u64, out: &mut [
 
 // Reads the file header of an image, for a partition of so many bytes. Answers block size, total
 // blocks, total chunks, checksum, file header size, chunk header size; all 0 for a refusal.
-#[unsafe(no_mangle)]
-pub extern "C" fn tarpaulark_header(image: &[u8], partition_len: u64, out: &mut [u64; 6]) -> u32
+pub fn tarpaulark_header(image: &[u8], partition_len: u64, out: &mut [u64; 6]) -> u32
     ensures { (result ≡ first (header_tests image.now (length image.now) partition_len))
         × (out.new ≡ header_numbers_by result (header_of image.now)) }
 {
@@ -50,8 +49,7 @@ pub extern "C" fn tarpaulark_header(image: &[u8], partition_len: u64, out: &mut 
 
 // Reads the chunk at an offset of an image, whose first block is given, by the image's own header.
 // Answers place, kind, blocks, the offset of its data, the next chunk's offset and first block.
-#[unsafe(no_mangle)]
-pub extern "C" fn tarpaulark_chunk(image: &[u8], at: u64, first: u32, out: &mut [u64; 6]) -> u32
+pub fn tarpaulark_chunk(image: &[u8], at: u64, first: u32, out: &mut [u64; 6]) -> u32
     ensures { (result ≡ number_of (chunk_in image.now at first))
         × (out.new ≡ chunk_numbers (chunk_in image.now at first)) }
 {
@@ -59,8 +57,7 @@ pub extern "C" fn tarpaulark_chunk(image: &[u8], at: u64, first: u32, out: &mut 
 }
 
 // Stores an image on a partition. Answers as the judge does.
-#[unsafe(no_mangle)]
-pub extern "C" fn tarpaulark_store(image: &[u8], partition: &mut [u8], out: &mut [u64; 4]) -> u32
+pub fn tarpaulark_store(image: &[u8], partition: &mut [u8], out: &mut [u64; 4]) -> u32
     ensures { (result ≡ number_of (answer image.now (length image.now) (length partition.old)))
         × (out.new ≡ verdict_numbers (answer image.now (length image.now) (length partition.old)))
         × (partition.new ≡ store image.now partition.old) }
@@ -69,8 +66,7 @@ pub extern "C" fn tarpaulark_store(image: &[u8], partition: &mut [u8], out: &mut
 }
 
 // Stores an image up to a limit of stored blocks. Answers place, blocks stored.
-#[unsafe(no_mangle)]
-pub extern "C" fn tarpaulark_store_limited(
+pub fn tarpaulark_store_limited(
     image: &[u8],
     partition: &mut [u8],
     limit: u64,
@@ -84,13 +80,7 @@ pub extern "C" fn tarpaulark_store_limited(
 }
 
 // Writes the sparse image of flat bytes. Answers place, which is 0, and the image's length.
-#[unsafe(no_mangle)]
-pub extern "C" fn tarpaulark_write(
-    flat: &[u8],
-    block_size: u32,
-    image: &mut [u8],
-    out: &mut [u64; 2],
-) -> u32
+pub fn tarpaulark_write(flat: &[u8], block_size: u32, image: &mut [u8], out: &mut [u64; 2]) -> u32
     ensures { (result ≡ number_of (writer.answer flat.now block_size (length image.old)))
         × (out.new ≡ count_numbers (writer.answer flat.now block_size (length image.old)))
         × (image.new ≡ writer.output flat.now block_size image.old) }
@@ -100,13 +90,7 @@ pub extern "C" fn tarpaulark_write(
 
 // Lists what changed from one image to another, runs of three numbers each. Answers place, the image that a refusal is of,
 // how many runs.
-#[unsafe(no_mangle)]
-pub extern "C" fn tarpaulark_compare(
-    first: &[u8],
-    second: &[u8],
-    runs: &mut [u32],
-    out: &mut [u64; 3],
-) -> u32
+pub fn tarpaulark_compare(first: &[u8], second: &[u8], runs: &mut [u32], out: &mut [u64; 3]) -> u32
     ensures { (result ≡ number_of (diff.answer first.now second.now (length runs.old)))
         × (out.new ≡ pair_numbers (refused_image first.now second.now)
         (diff.answer first.now second.now (length runs.old)))
@@ -117,13 +101,7 @@ pub extern "C" fn tarpaulark_compare(
 
 // Makes one image of two that has the effect of the first followed by the second. Answers place, the image that a refusal is
 // of, the image's length.
-#[unsafe(no_mangle)]
-pub extern "C" fn tarpaulark_join(
-    first: &[u8],
-    second: &[u8],
-    image: &mut [u8],
-    out: &mut [u64; 3],
-) -> u32
+pub fn tarpaulark_join(first: &[u8], second: &[u8], image: &mut [u8], out: &mut [u64; 3]) -> u32
     ensures { (result ≡ number_of (joiner.answer first.now second.now (length image.old)))
         × (out.new ≡ pair_numbers (refused_image first.now second.now)
         (joiner.answer first.now second.now (length image.old)))
@@ -133,36 +111,28 @@ pub extern "C" fn tarpaulark_join(
 }
 
 // Begins a pass over an image of so many bytes that arrives in pieces, for a partition of so many bytes.
-#[unsafe(no_mangle)]
-pub extern "C" fn tarpaulark_pass_begin(length: u64, partition_len: u64, pass: &mut [u8; 112])
+pub fn tarpaulark_pass_begin(length: u64, partition_len: u64, pass: &mut [u8; 112])
     ensures { Held (begun length partition_len) pass.new }
 {
     tarpaulark_passes::begin(length, partition_len, pass);
 }
 
 // A piece for the judging pass. Answers place.
-#[unsafe(no_mangle)]
-pub extern "C" fn tarpaulark_pass_judge_piece(
-    pass: &mut [u8; 112],
-    piece: &[u8],
-    out: &mut [u64; 1],
-) -> u32
+pub fn tarpaulark_pass_judge_piece(pass: &mut [u8; 112], piece: &[u8], out: &mut [u64; 1]) -> u32
     ensures { Handed (judge_call (pass_of pass.old) piece.now) result out.new pass.new }
 {
     tarpaulark_passes::judge_piece(pass, piece, out)
 }
 
 // Finishes the judging pass. Answers as the judge does.
-#[unsafe(no_mangle)]
-pub extern "C" fn tarpaulark_pass_judge_finish(pass: &mut [u8; 112], out: &mut [u64; 4]) -> u32
+pub fn tarpaulark_pass_judge_finish(pass: &mut [u8; 112], out: &mut [u64; 4]) -> u32
     ensures { HandedAnswer (judge_at_end (pass_of pass.old)) result out.new pass.new }
 {
     tarpaulark_passes::judge_finish(pass, out)
 }
 
 // A piece for the storing pass, which is lent the partition. Answers place.
-#[unsafe(no_mangle)]
-pub extern "C" fn tarpaulark_pass_store_piece(
+pub fn tarpaulark_pass_store_piece(
     pass: &mut [u8; 112],
     piece: &[u8],
     partition: &mut [u8],
@@ -175,8 +145,7 @@ pub extern "C" fn tarpaulark_pass_store_piece(
 }
 
 // Finishes the storing pass, which is lent the partition once more. Answers as the judge does.
-#[unsafe(no_mangle)]
-pub extern "C" fn tarpaulark_pass_store_finish(
+pub fn tarpaulark_pass_store_finish(
     pass: &mut [u8; 112],
     partition: &[u8],
     out: &mut [u64; 4],
@@ -188,8 +157,7 @@ pub extern "C" fn tarpaulark_pass_store_finish(
 
 // Finds the sections of a boot image. Answers the version, then for kernel, ramdisk, recovery, dtb and signature whether
 // it is present, its position and its size, then whether a retired section is present.
-#[unsafe(no_mangle)]
-pub extern "C" fn tarpaulark_locate(image: &[u8], out: &mut [u64; 17]) -> u32
+pub fn tarpaulark_locate(image: &[u8], out: &mut [u64; 17]) -> u32
     ensures { (result ≡ number_of (boot.answer image.now))
         × (out.new ≡ layout_numbers (boot.answer image.now)) }
 {
@@ -198,13 +166,7 @@ pub extern "C" fn tarpaulark_locate(image: &[u8], out: &mut [u64; 17]) -> u32
 
 // Finds the sections of a boot image for a board launched with a release, by its kernel, 0 plain and 1 generic. Answers as
 // the finder of sections does.
-#[unsafe(no_mangle)]
-pub extern "C" fn tarpaulark_locate_for(
-    image: &[u8],
-    release: u32,
-    kernel: u32,
-    out: &mut [u64; 17],
-) -> u32
+pub fn tarpaulark_locate_for(image: &[u8], release: u32, kernel: u32, out: &mut [u64; 17]) -> u32
     ensures { (result ≡ number_of (launch.answer release kernel image.now))
         × (out.new ≡ layout_numbers (launch.answer release kernel image.now)) }
 {
@@ -212,12 +174,7 @@ pub extern "C" fn tarpaulark_locate_for(
 }
 
 // Makes a fresh slot record. Answers kind and started slot, as each slot operation does; a refusal leaves the bytes.
-#[unsafe(no_mangle)]
-pub extern "C" fn tarpaulark_slots_fresh(
-    slots: u32,
-    bytes: &mut [u8; RECORD],
-    out: &mut [u64; 2],
-) -> u32
+pub fn tarpaulark_slots_fresh(slots: u32, bytes: &mut [u8; RECORD], out: &mut [u64; 2]) -> u32
     ensures { (result ≡ (fresh_bytes slots bytes.old).number)
         × (out.new ≡ (fresh_bytes slots bytes.old).answer)
         × (bytes.new ≡ (fresh_bytes slots bytes.old).bytes) }
@@ -226,8 +183,7 @@ pub extern "C" fn tarpaulark_slots_fresh(
 }
 
 // Start.
-#[unsafe(no_mangle)]
-pub extern "C" fn tarpaulark_slots_start(bytes: &mut [u8; RECORD], out: &mut [u64; 2]) -> u32
+pub fn tarpaulark_slots_start(bytes: &mut [u8; RECORD], out: &mut [u64; 2]) -> u32
     ensures { (result ≡ (on_bytes Op.Start bytes.old).number)
         × (out.new ≡ (on_bytes Op.Start bytes.old).answer)
         × (bytes.new ≡ (on_bytes Op.Start bytes.old).bytes) }
@@ -236,12 +192,7 @@ pub extern "C" fn tarpaulark_slots_start(bytes: &mut [u8; RECORD], out: &mut [u6
 }
 
 // Set active.
-#[unsafe(no_mangle)]
-pub extern "C" fn tarpaulark_slots_set_active(
-    bytes: &mut [u8; RECORD],
-    slot: u32,
-    out: &mut [u64; 2],
-) -> u32
+pub fn tarpaulark_slots_set_active(bytes: &mut [u8; RECORD], slot: u32, out: &mut [u64; 2]) -> u32
     ensures { (result ≡ (on_bytes (Op.SetActive slot) bytes.old).number)
         × (out.new ≡ (on_bytes (Op.SetActive slot) bytes.old).answer)
         × (bytes.new ≡ (on_bytes (Op.SetActive slot) bytes.old).bytes) }
@@ -250,12 +201,7 @@ pub extern "C" fn tarpaulark_slots_set_active(
 }
 
 // Partition modified.
-#[unsafe(no_mangle)]
-pub extern "C" fn tarpaulark_slots_modified(
-    bytes: &mut [u8; RECORD],
-    slot: u32,
-    out: &mut [u64; 2],
-) -> u32
+pub fn tarpaulark_slots_modified(bytes: &mut [u8; RECORD], slot: u32, out: &mut [u64; 2]) -> u32
     ensures { (result ≡ (on_bytes (Op.Modified slot) bytes.old).number)
         × (out.new ≡ (on_bytes (Op.Modified slot) bytes.old).answer)
         × (bytes.new ≡ (on_bytes (Op.Modified slot) bytes.old).bytes) }
@@ -264,12 +210,7 @@ pub extern "C" fn tarpaulark_slots_modified(
 }
 
 // Corrupted: the slot's system was found damaged.
-#[unsafe(no_mangle)]
-pub extern "C" fn tarpaulark_slots_corrupted(
-    bytes: &mut [u8; RECORD],
-    slot: u32,
-    out: &mut [u64; 2],
-) -> u32
+pub fn tarpaulark_slots_corrupted(bytes: &mut [u8; RECORD], slot: u32, out: &mut [u64; 2]) -> u32
     ensures { (result ≡ (on_bytes (Op.Corrupted slot) bytes.old).number)
         × (out.new ≡ (on_bytes (Op.Corrupted slot) bytes.old).answer)
         × (bytes.new ≡ (on_bytes (Op.Corrupted slot) bytes.old).bytes) }
@@ -278,8 +219,7 @@ pub extern "C" fn tarpaulark_slots_corrupted(
 }
 
 // Confirm. The system calls this, never the loader.
-#[unsafe(no_mangle)]
-pub extern "C" fn tarpaulark_slots_confirm(bytes: &mut [u8; RECORD], out: &mut [u64; 2]) -> u32
+pub fn tarpaulark_slots_confirm(bytes: &mut [u8; RECORD], out: &mut [u64; 2]) -> u32
     ensures { (result ≡ (on_bytes Op.Confirm bytes.old).number)
         × (out.new ≡ (on_bytes Op.Confirm bytes.old).answer)
         × (bytes.new ≡ (on_bytes Op.Confirm bytes.old).bytes) }
@@ -288,16 +228,14 @@ pub extern "C" fn tarpaulark_slots_confirm(bytes: &mut [u8; RECORD], out: &mut [
 }
 
 // Whether bytes are a valid slot record: 0, or 31.
-#[unsafe(no_mangle)]
-pub extern "C" fn tarpaulark_slots_valid(bytes: &[u8; RECORD]) -> u32
+pub fn tarpaulark_slots_valid(bytes: &[u8; RECORD]) -> u32
     ensures { result ≡ bytes_refusal bytes.now }
 {
     tarpaulark_slots::valid(bytes)
 }
 
 // How many slots of a record are startable, as the record keeps it, or 0 beside the refusal 31.
-#[unsafe(no_mangle)]
-pub extern "C" fn tarpaulark_slots_startable(bytes: &[u8; RECORD], out: &mut [u64; 1]) -> u32
+pub fn tarpaulark_slots_startable(bytes: &[u8; RECORD], out: &mut [u64; 1]) -> u32
     ensures { (result ≡ (bytes_startable bytes.now).number)
         × (out.new ≡ (bytes_startable bytes.now).startable ∷ []) }
 {
@@ -307,8 +245,7 @@ pub extern "C" fn tarpaulark_slots_startable(bytes: &[u8; RECORD], out: &mut [u6
 // Starts a slot: Start, the started slot's image, of one for each of the places a to d, and the final command line, which is
 // put into the space. Answers kind, started slot and the line's length, then as the finder of sections does. A refusal
 // after Start leaves the bytes that Start leaves.
-#[unsafe(no_mangle)]
-pub extern "C" fn tarpaulark_start(
+pub fn tarpaulark_start(
     bytes: &mut [u8; RECORD],
     a: &[u8],
     b: &[u8],
@@ -327,21 +264,15 @@ pub extern "C" fn tarpaulark_start(
 
 // Counts an image in a report, judged for a partition of so many bytes. A report is accepted, blocks, bytes, skipped,
 // largest, then the counts of the refusal numbers 1 to 11. A refusal leaves it.
-#[unsafe(no_mangle)]
-pub extern "C" fn tarpaulark_report_count(
-    report: &mut [u64; REPORT],
-    image: &[u8],
-    partition_len: u64,
-) -> u32
-    ensures { (result ≡ (counted (report_in report.old) (record { image = image.entry.now; room = partition_len })).number)
-        × (report.new ≡ report_numbers (counted (report_in report.old) (record { image = image.entry.now; room = partition_len })).report) }
+pub fn tarpaulark_report_count(report: &mut [u64; REPORT], image: &[u8], partition_len: u64) -> u32
+    ensures { (result ≡ (counted (report_in report.old) (record { image = image.now; room = partition_len })).number)
+        × (report.new ≡ report_numbers (counted (report_in report.old) (record { image = image.now; room = partition_len })).report) }
 {
     tarpaulark_report::count(report, image, partition_len)
 }
 
 // Adds another report to one. A refusal leaves both.
-#[unsafe(no_mangle)]
-pub extern "C" fn tarpaulark_report_add(report: &mut [u64; REPORT], other: &[u64; REPORT]) -> u32
+pub fn tarpaulark_report_add(report: &mut [u64; REPORT], other: &[u64; REPORT]) -> u32
     ensures { (result ≡ (added (report_in report.old) (report_in other.now)).number)
         × (report.new ≡ report_numbers (added (report_in report.old) (report_in other.now)).report) }
 {
