@@ -22,11 +22,14 @@ VERSION := $(shell sed -n 's/^\#define TARPAULARK_VERSION "\(.*\)"$$/\1/p' inclu
 SOURCES := $(wildcard host/*.c)
 HEADERS := $(wildcard host/*.h) include/tarpaulark.h
 
-# The crates that the library is made of: crates.txt has them lowest first.
-LIBRARY = target/staticlib/libtarpaulark.a
-CRATES := $(shell tac crates.txt | awk -F: 'BEGIN { needed["tarpaulark"] = 1 } \
-	needed[$$1] { print "crates/" $$1; n = split($$2, on, " "); for (i = 1; i <= n; i++) needed[on[i]] = 1 }')
-PROVED := crates.txt $(shell find $(CRATES) \( -name '*.rt' -o -name '*.antt' \) -not -path '*/must-fail/*')
+# The crates that the library is made of, EXPORTS with those below it: crates.txt has them lowest first.
+LIBRARY = build/libtarpaulark.a
+EXPORTS = tarpaulark_c
+CRATES := $(shell tac crates.txt | awk -F: 'BEGIN { needed["$(EXPORTS)"] = 1 } { split($$1, name, " ") } \
+	needed[name[1]] { print "crates/" name[1]; n = split($$2, on, " "); for (i = 1; i <= n; i++) needed[on[i]] = 1 }')
+PROVED := crates.txt $(shell find $(CRATES) -name out -prune -o \( -name '*.rt' -o -name '*.antt' \) -print)
+# The prover works in the folder of a crate.
+RT_THERE = $(if $(findstring /,$(RT)),$(abspath $(RT)),$(RT))
 
 .PHONY: all demo test peers bench size install clean
 .DELETE_ON_ERROR:
@@ -39,13 +42,13 @@ $(LIBRARY): $(PROVED)
 		echo 'make: built: put the bin folder of the kit on the path, or name the program: make RT=FOLDER/rt'; \
 		exit 1; } >&2
 	@mkdir -p build
-	@echo 'proving the library: some minutes the first time, then only what has changed (all output: build/prove.log)'
-	@{ $(RT) staticlib tarpaulark 2>&1; echo $$? >build/prove.status; } \
-		| tee build/prove.log | sed -u -n 's/^rt: /  /p'; \
+	@echo 'proving the library: long the first time, then only what has changed (all output: build/prove.log)'
+	@{ (cd crates/$(EXPORTS) && $(RT_THERE) lib) 2>&1; echo $$? >build/prove.status; } \
+		| tee build/prove.log | sed -u -n 's/^rt: chose --jobs [0-9]* for /  /p'; \
 	status=$$(cat build/prove.status); rm -f build/prove.status; \
 	if [ "$$status" != 0 ]; then \
 		tail -n 20 build/prove.log; echo 'make: not proved; build/prove.log has all of it'; exit "$$status"; fi >&2
-	@touch $@
+	@cp crates/$(EXPORTS)/out/lib$(EXPORTS).a $@
 
 build/tarpaulark: $(SOURCES) $(HEADERS) $(LIBRARY)
 	mkdir -p build

@@ -1,8 +1,8 @@
-"""Prints the table of sizes of docs/PERFORMANCE.md: make size, or python3 bench/size.py
+"""Prints the table of sizes of docs/PERFORMANCE.md: make size, or python3 bench/size.py once the library is built
 
-The kit compiles a library at -O3, and takes no other flag.  So a kit is put together here that is the installed one
-but for its compiler, which keeps what it is given to compile; that is then compiled again with the compiler's own
-flags for size.  The library in target/ is built anew on the way, and is the same.
+The kit compiles a static library at -O3, and takes no other flag.  So the library is built once more here, by a folder
+of compilers that is the kit's but for one, which keeps what it is given to compile; that is then compiled again with the
+compiler's own flags for size.
 
 checksum is the code of the checksum's own functions; tables is how often its table stands in the object; judge and
 store is what these two functions take alone, code and data, by a linker that leaves out the rest.
@@ -10,7 +10,6 @@ store is what these two functions take alone, code and data, by a linker that le
 
 import os
 import shlex
-import shutil
 import subprocess
 import sys
 import tempfile
@@ -20,9 +19,9 @@ HERE = os.path.dirname(os.path.abspath(__file__))
 TOP = os.path.dirname(HERE)
 sys.path.insert(0, os.path.join(TOP, "tests"))
 
+import archive
 import tables
 
-LIBRARY = "tarpaulark"
 BUILT = "-O3"
 LEVELS = (BUILT, "-O2", "-Os", "-Oz")
 # What a loader that only judges and stores links.
@@ -32,14 +31,6 @@ for word; do case $word in *.bc) cp "$word" {kept}/module.bc;; esac; done
 printf '%s\\n' "$@" >{kept}/words
 exec {real} "$@"
 """
-
-
-def kit_home() -> str:
-    """The folder of the installed kit."""
-    found = shutil.which(os.environ.get("RT", "rt"))
-    if not found:
-        sys.exit("size: no rt on the path")
-    return os.environ.get("RATTLE_HOME") or os.path.dirname(os.path.dirname(os.path.realpath(found)))
 
 
 def link_all(source: str, target: str, but: str) -> None:
@@ -52,22 +43,16 @@ def link_all(source: str, target: str, but: str) -> None:
 
 def keep_module(folder: str) -> List[str]:
     """Builds the library, and keeps its module; the words that the compiler got."""
-    kit, own = kit_home(), os.path.join("on", os.uname().machine)
-    tools = os.path.join(kit, own, "toolchain")
-    made = os.path.join(folder, "kit")
-    link_all(kit, made, "on")
-    link_all(os.path.join(kit, own), os.path.join(made, own), "toolchain")
-    link_all(tools, os.path.join(made, own, "toolchain"), "bin")
-    link_all(os.path.join(tools, "bin"), os.path.join(made, own, "toolchain", "bin"), "clang")
-    keeper = os.path.join(made, own, "toolchain", "bin", "clang")
+    tools = os.path.join(archive.kit_home(), "toolchain")
+    made = os.path.join(folder, "toolchain")
+    link_all(tools, made, "bin")
+    link_all(os.path.join(tools, "bin"), os.path.join(made, "bin"), "clang")
+    keeper = os.path.join(made, "bin", "clang")
     real = os.path.join(tools, "bin", "clang")
     with open(keeper, "w") as file:
         file.write(KEEPER.format(kept=shlex.quote(folder), real=shlex.quote(real)))
     os.chmod(keeper, 0o755)
-    built = subprocess.run([os.environ.get("RT", "rt"), "staticlib", LIBRARY], env=dict(os.environ, RATTLE_HOME=made),
-                           cwd=TOP, stdout=subprocess.PIPE, stderr=subprocess.STDOUT, text=True)
-    if built.returncode:
-        sys.exit(f"size: the library could not be built:\n{built.stdout[-2000:]}")
+    archive.build(os.path.join(folder, "library.a"), made)
     with open(os.path.join(folder, "words")) as file:
         words = file.read().splitlines()
     if BUILT not in words:

@@ -1,6 +1,6 @@
 """Holds a built lister program against the reference.
 
-    python3 tests/lister.py [PROGRAM]        PROGRAM is target/bin/simg_list by default
+    python3 tests/lister.py [PROGRAM]    by default crates/simg_list/out/simg_list
 
 Runs the program on many inputs and compares its standard output byte for byte
 with the reference's text.  Prints one line, `lister: N inputs agree`; at the
@@ -24,7 +24,7 @@ import programs
 from build import ChunkPlan
 
 SEED = 20240902
-DEFAULT_PROGRAM = os.path.join("target", "bin", "simg_list")
+DEFAULT_PROGRAM = os.path.join("crates", "simg_list", "out", "simg_list")
 LONGEST = lister.LONGEST_IMAGE
 BLOCKS_OF_4 = lister.PARTITION_LENGTH // 4
 

@@ -1,6 +1,6 @@
 """Holds a built program that prints the launch releases of a boot image against the reference.
 
-    python3 tests/releases.py [PROGRAM]      PROGRAM is target/bin/bootimg_releases by default
+    python3 tests/releases.py [PROGRAM]    by default crates/bootimg_releases/out/bootimg_releases
 
 Runs the program on many inputs and compares its standard output byte for byte
 with the reference's text.  Prints one line, `releases: N inputs agree`; at the
@@ -25,7 +25,7 @@ from cases_boot import VERSIONS
 from cases_common import below, some_bytes
 
 SEED = 20240904
-DEFAULT_PROGRAM = os.path.join("target", "bin", "bootimg_releases")
+DEFAULT_PROGRAM = os.path.join("crates", "bootimg_releases", "out", "bootimg_releases")
 LONGEST = launch.LONGEST_IMAGE
 FIRST_PAGE = 4096
 

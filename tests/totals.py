@@ -1,6 +1,6 @@
 """Holds a built program that prints the report of the images in a folder against the reference.
 
-    python3 tests/totals.py [PROGRAM]        PROGRAM is target/bin/simg_totals by default
+    python3 tests/totals.py [PROGRAM]    by default crates/simg_totals/out/simg_totals
 
 Runs the program in many folders, each made for it, and compares its standard output byte for
 byte with the reference's text.  Prints one line, `totals: N folders agree`; at the first
@@ -29,7 +29,7 @@ from cases_common import below, pick, some_bytes
 from programs import Answer, Test, Trial
 
 SEED = 20240905
-DEFAULT_PROGRAM = os.path.join("target", "bin", "simg_totals")
+DEFAULT_PROGRAM = os.path.join("crates", "simg_totals", "out", "simg_totals")
 LONGEST = report.LONGEST_IMAGE
 PARTITION = report.PARTITION_LENGTH
 BLOCKS_OF_4 = PARTITION // 4
