@@ -9,34 +9,34 @@ ghost use Rattle.boot_rules.specs.Tests.{misplaced, overruns};
 use boot_rules::{Rooms, Section};
 
 // Whether the recovery section is not empty and its offset field is not its position.
-pub fn misplaced(offset: u64, x: Section) -> bool
-    ensures { result ≡ misplaced offset x }
+pub fn misplaced(offset: u64, room: Option<Section>) -> bool
+    ensures { result ≡ misplaced offset room }
 {
-    (x.size != 0) & (offset != x.position)
+    room.is_some_and(|x| (x.size != 0) & (offset != x.position))
 }
 
 // Whether a section is not empty and ends past `n` bytes.
-fn overrun(n: u64, x: Section) -> bool
-    ensures { result ≡ overruns n x }
+fn overrun(n: u64, room: Option<Section>) -> bool
+    ensures { result ≡ overruns n room }
 {
-    let size = x.size as u64;
-    if size == 0 {
-        return false;
-    }
-    if n < size {
-        return true;
-    }
-    n - size < x.position
+    room.is_some_and(|x| {
+        let size = x.size as u64;
+        (size != 0) & ((n < size) || (n - size < x.position))
+    })
 }
 
 // Whether some section, retired or not, is not empty and ends past `n` bytes.
 pub fn any_overrun(n: u64, rooms: Rooms) -> bool
     ensures { result ≡ any_of (overruns n) (rooms_in rooms) }
 {
-    overrun(n, rooms.kernel)
-        | overrun(n, rooms.ramdisk)
-        | overrun(n, rooms.second)
-        | overrun(n, rooms.recovery)
-        | overrun(n, rooms.dtb)
-        | overrun(n, rooms.signature)
+    [
+        rooms.kernel,
+        rooms.ramdisk,
+        rooms.second,
+        rooms.recovery,
+        rooms.dtb,
+        rooms.signature,
+    ]
+    .iter()
+    .any(|&room| overrun(n, room))
 }

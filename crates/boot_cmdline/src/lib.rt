@@ -11,20 +11,12 @@ use boot_rules::Field;
 pub fn cmdline_in(image: &[u8]) -> Field
     ensures { result ≡ cmdline_in image.now }
 {
-    let row = row_in(image);
-    Field {
-        at: row.at.cmdline,
-        width: row.width.cmdline,
-    }
+    row_in(image).cmdline
 }
 
 // The field of the extra cmdline, without bytes where the version lacks it.
 pub fn extra_in(image: &[u8]) -> Field
     ensures { result ≡ extra_in image.now }
 {
-    let row = row_in(image);
-    Field {
-        at: row.at.extra,
-        width: row.width.extra,
-    }
+    row_in(image).extra
 }

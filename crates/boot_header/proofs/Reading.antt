@@ -1,46 +1,46 @@
--- Laws of the fields that the table places: what is read where the version has the field, and where it lacks it.
+-- Laws of the fields that the table places, read as numbers: what stands for one that the version lacks.
 -- Assumes nothing.
-use mathlib.Core.Path.{◌≡◌, ap, ◌∙◌}
-use mathlib.Core.Bool.{◌&&◌, not, cond}
+use mathlib.Core.Path.{◌≡◌, sym, ap, ◌∙◌}
+use mathlib.Core.Bool.{Bool, true, false, ◌&&◌, not, cond}
 use mathlib.Core.List.{List}
-use Prim.Native.Nat.{ℕ, ◌≤◌, ◌<◌}
+use Prim.Native.Nat.{ℕ}
 use lib.Dec.{eqb}
-use borrow.Author.Tests.{lt-ltb, le-ltb}
-use Rattle.boot_rules.specs.declared.Field.{Field}
+use Rattle.std.specs.Prelude.{Option, Some, None, MatchOption, unwrap_or}
 use Rattle.boot_rules.specs.declared.Row.{Row}
 use Rattle.boot_rules.specs.Sections.{row_in, page_by, page_in, os_in, offset_in}
-use Rattle.boot_rules.specs.Table.{has, number, word_at, header_size, page_size, os_version, recovery_offset}
+use Rattle.boot_rules.specs.Table.{has, number, read_at, header_size, page_size, os_version, recovery_offset}
 use Rattle.boot_rules.specs.Tests.{missized}
-use Rattle.boot_rules.proofs.Reading.{number_read, word_number, page_stated, page_fixed}
+use Rattle.boot_rules.proofs.Reading.{number_read, stated_or, stated_or_0}
 use Rattle.boot_rules.proofs.Widths.{numbers}
-use Rattle.fields_rules.specs.Number.{number_at}
 
-module _ (s : List ℕ) (f : Field) (w : ℕ) where
-  -- a field that the version has, and one that it lacks
-  pub read_here : (n : ℕ) → 0 < f.width → n ≡ number_at s f.at w → n ≡ cond (has f) (number_at s f.at w) 0
-  read_here n h e = rw (lt-ltb 0 f.width h) e
+-- a test of a number that may be stated, and false where it is not
+tested : (b : Bool) (x h : ℕ) (n : Option ℕ) (t : Bool) → n ≡ cond b (Some x) None → MatchOption n (t ≡ false) (λ k. not (eqb k h) ≡ t) → t ≡ (b && not (eqb x h))
+tested true x h (Some k) t e m = let q : k ≡ x = cc in sym m ∙ ap (λ (y : ℕ). not (eqb y h)) q
+tested true x h None t e m = cc
+tested false x h (Some k) t e m = cc
+tested false x h None t e m = m
 
-  pub read_none : f.width ≤ 0 → 0 ≡ cond (has f) (number_at s f.at w) 0
-  read_none h = rw (le-ltb 0 f.width h)
-
-module _ (s : List ℕ) (r : Row) (e : r ≡ row_in s) where
+module _ (s : List ℕ) (r : Row) (e : r ≡ row_in s) (n : Option ℕ) where
   -- the page size, stated or not
-  pub page_here : (n : ℕ) → 0 < r.width.page → n ≡ word_at s (page_size r) → n ≡ page_in s
-  page_here n h q = q ∙ word_number s (page_size r) (numbers r _ e).page ∙ page_stated s r h ∙ ap (page_by s) e
-
-  pub page_none : r.width.page ≤ 0 → 4096 ≡ page_in s
-  page_none h = page_fixed s r h ∙ ap (page_by s) e
+  pub page_read : n ≡ read_at 4 s r.page → unwrap_or n 4096 ≡ page_in s
+  page_read q =
+      ap (λ (x : Option ℕ). unwrap_or x 4096) (q ∙ number_read s (page_size r) 4 (numbers r _ e).page)
+      ∙ stated_or s (page_size r) 4096 ∙ ap (page_by s) e
 
   -- the os version
-  pub os_read : (n : ℕ) → n ≡ word_at s (os_version r) → n ≡ os_in s
-  os_read n q = q ∙ word_number s (os_version r) (numbers r _ e).os ∙ ap (λ (x : Row). number s (os_version x)) e
+  pub os_read : n ≡ read_at 4 s r.os → unwrap_or n 0 ≡ os_in s
+  os_read q =
+      ap (λ (x : Option ℕ). unwrap_or x 0) (q ∙ number_read s (os_version r) 4 (numbers r _ e).os)
+      ∙ stated_or_0 s (os_version r) ∙ ap (λ (x : Row). number s (os_version x)) e
 
   -- the recovery offset, stated or not
-  pub offset_read : (n : ℕ) → n ≡ cond (has (recovery_offset r)) (number_at s r.at.offset 8) 0 → n ≡ offset_in s
-  offset_read n q = q ∙ number_read s (recovery_offset r) 8 (numbers r _ e).offset ∙ ap (λ (x : Row). number s (recovery_offset x)) e
+  pub offset_read : n ≡ read_at 8 s r.offset → unwrap_or n 0 ≡ offset_in s
+  offset_read q =
+      ap (λ (x : Option ℕ). unwrap_or x 0) (q ∙ number_read s (recovery_offset r) 8 (numbers r _ e).offset)
+      ∙ stated_or_0 s (recovery_offset r) ∙ ap (λ (x : Row). number s (recovery_offset x)) e
 
-  -- the header size, stated or not
-  pub size_test : (n : ℕ) → n ≡ word_at s (header_size r) → (has (header_size r) && not (eqb n r.header)) ≡ missized s (row_in s)
-  size_test n q =
-      ap (λ (m : ℕ). has (header_size r) && not (eqb m r.header)) (q ∙ word_number s (header_size r) (numbers r _ e).headersize)
+  -- whether the header size, where it is stated, is not the header length
+  pub size_tested : n ≡ read_at 4 s r.headersize → (t : Bool) → MatchOption n (t ≡ false) (λ k. not (eqb k r.header) ≡ t) → t ≡ missized s (row_in s)
+  size_tested q t m =
+      tested (has (header_size r)) (number s (header_size r)) r.header n t (q ∙ number_read s (header_size r) 4 (numbers r _ e).headersize) m
       ∙ ap (missized s) e

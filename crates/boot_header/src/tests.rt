@@ -1,12 +1,12 @@
 // The tests of the header, in their order.
-ghost use Rattle.std.specs.Prelude.{◌≡◌};
+ghost use Rattle.std.specs.Prelude.{◌≡◌, not};
 ghost use Rattle.boot_rules.specs.Pages.{is_page};
-ghost use Rattle.boot_rules.specs.Sections.{row_in};
-ghost use Rattle.boot_rules.specs.Tests.{missized, head_tests};
+ghost use Rattle.boot_rules.specs.Sections.{row_in, page_in};
+ghost use Rattle.boot_rules.specs.Tests.{missized, head_tests, found_number};
 ghost use Rattle.rules.specs.First.{first};
 
 use crate::{page_in, row_in, version_in, word};
-use boot_rules::Field;
+use boot_rules::Refusal;
 
 // `ANDROID!`, low byte first.
 const MAGIC: u64 = 0x2144494F52444E41;
@@ -23,32 +23,38 @@ fn missized(image: &[u8]) -> bool
     ensures { result ≡ missized image.now (row_in image.now) }
 {
     let row = row_in(image);
-    let field = Field {
-        at: row.at.headersize,
-        width: row.width.headersize,
-    };
-    (0 < field.width) & (word(image, field) != row.header as u32)
+    word(image, row.headersize).is_some_and(|size| size != row.header as u32)
 }
 
-// The first refusal of the header, 0 where there is none.
-pub fn header_refusal(image: &[u8]) -> u32
-    ensures { result ≡ first (head_tests image.now) }
+// Whether the page size is none that a page can have.
+fn wrong_page(image: &[u8]) -> bool
+    ensures { result ≡ not (is_page (page_in image.now)) }
+{
+    !is_page(page_in(image))
+}
+
+// The first test of the header that fails.
+#[tactic(auto, using(crate::proofs::Judging::magic_number), unfolding(boot_rules::specs::Tests::head_tests))]
+pub fn check_header(image: &[u8]) -> Result<(), Refusal>
+    ensures { found_number result ≡ first (head_tests image.now) }
 {
     if image.len() < 44 {
-        return 21;
+        return Err(Refusal::TooShort);
     }
     if fields_read::read64(image, 0) != MAGIC {
-        return 22;
+        return Err(Refusal::Magic);
     }
     if 4 < version_in(image) {
-        return 23;
+        return Err(Refusal::Version);
     }
-    let row = row_in(image);
-    if image.len() < row.header as usize {
-        return 21;
+    if image.len() < row_in(image).header as usize {
+        return Err(Refusal::TooShort);
     }
     if missized(image) {
-        return 24;
+        return Err(Refusal::HeaderSize);
     }
-    if is_page(page_in(image)) { 0 } else { 25 }
+    if wrong_page(image) {
+        return Err(Refusal::PageSize);
+    }
+    Ok(())
 }

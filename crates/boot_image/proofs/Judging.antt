@@ -5,6 +5,7 @@ use mathlib.Core.List.{List}
 use Prim.Native.Nat.{ℕ}
 use lib.Dec.{lit<}
 use lib.ListN.{length, get_or}
+use Rattle.std.specs.Prelude.{Option}
 use Rattle.boot_rules.specs.declared.Layout.{Layout}
 use Rattle.boot_rules.specs.declared.Rooms.{Rooms}
 use Rattle.boot_rules.specs.declared.Section.{Section}
@@ -18,7 +19,7 @@ use Rattle.rules.specs.First.{first}
 module _ (s : List ℕ) (l : Rooms) (h : first (head_tests s) ≡ 0) (e : rooms_in l ≡ sections_of s) (o : ℕ) (t : Bool) (oe : o ≡ offset_in s) (te : t ≡ misplaced o l.recovery) where
   recovery_said : (b : Bool) → t ≡ b → misplaced (offset_in s) (get_or (sections_of s) 3 no_section) ≡ b
   recovery_said b be =
-      ap (λ (n : ℕ). misplaced n (get_or (sections_of s) 3 no_section)) (sym oe) ∙ ap (λ (xs : List Section). misplaced o (get_or xs 3 no_section)) (sym e) ∙ sym te ∙ be
+      ap (λ (n : ℕ). misplaced n (get_or (sections_of s) 3 no_section)) (sym oe) ∙ ap (λ (xs : List (Option Section)). misplaced o (get_or xs 3 no_section)) (sym e) ∙ sym te ∙ be
 
   pub out_27 : t ≡ true → refused 27 0 ≡ answer s
   out_27 i = sections_refuse s h 27 (sections_27 s (recovery_said true i)) (lit< tt)

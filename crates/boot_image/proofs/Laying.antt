@@ -1,34 +1,33 @@
--- Laws of laying sections out: one step, as the code makes it, and three of them, each from where the one before it ends.
--- Assumes nothing.
+-- Laws of laying sections out, one after another. Assumes nothing.
 use mathlib.Core.Path.{◌≡◌, sym, ap, ◌∙◌, subst}
-use mathlib.Core.Bool.{true}
+use mathlib.Core.Bool.{Bool, true, false, cond}
 use mathlib.Core.List.{List}
-use Prim.Native.Nat.{ℕ, suc, ◌+◌, ◌≤◌, ◌<◌}
+use Prim.Native.Nat.{ℕ, suc, ◌+◌, ◌<◌}
 use native.Mathlib.Omega.{arith}
 use mir.Val.{Fits}
 use mir.Syntax.{w8}
-use lib.ListN.{get_or}
-use borrow.Author.Tests.{lt-ltb, le-ltb}
-use Rattle.boot_rules.specs.declared.Field.{Field}
+use lib.ListN.{get_or, set, length, length-set}
+use Rattle.std.proofs.Common.{get_or-set_same, get_or-set_other}
+use borrow.Author.Count.{below_more}
+use Rattle.std.specs.Prelude.{Option, Some, None, unwrap_or, MatchOption, IsSomeAnd}
 use Rattle.boot_rules.specs.declared.Row.{Row}
-use Rattle.boot_image.specs.declared.sections.Step.{Step}
+use Rattle.boot_rules.specs.declared.Section.{Section}
 use Rattle.boot_rules.specs.Pages.{is_page, round_up}
 use Rattle.boot_rules.specs.Positions.{position_bound}
 use Rattle.boot_rules.specs.Sections.{version_in, row_in, page_in, no_section, section_at, starts_of, sections_of}
-use Rattle.boot_rules.specs.Table.{has, number, lacking, size_fields}
-use Rattle.boot_image.specs.Steps.{Ready, Stepped}
-use Rattle.boot_rules.proofs.Placing.{start_next, section-at}
+use Rattle.boot_rules.specs.Table.{has, number, read_at, lacking, size_fields}
+use Rattle.boot_image.specs.Steps.{Ready}
+use Rattle.boot_rules.proofs.Placing.{start_first, start_next, section-at}
 use Rattle.boot_rules.proofs.Positions.{near}
+use Rattle.boot_rules.proofs.Reading.{stated, number_read, stated_or_0}
 use Rattle.boot_rules.proofs.Widths.{numbers}
 use Rattle.fields_rules.specs.Number.{Bytes}
 
--- a step over a section of the version, and over one that it lacks
-module _ (s : List ℕ) (f : Field) (start next n k : ℕ) (q : n ≡ number s f) (h : next ≡ round_up (start + n) k) where
-  pub step_here : 0 < f.width → Stepped s k f start (record { section = record { present = true; position = start; size = n }; next = next })
-  step_here w = record { section = rw (lt-ltb 0 f.width w, q); next = h ∙ ap (λ (y : ℕ). round_up (start + y) k) q }
-
-  pub step_none : f.width ≤ 0 → Stepped s k f start (record { section = no_section; next = next })
-  step_none w = record { section = rw (le-ltb 0 f.width w); next = h ∙ ap (λ (y : ℕ). round_up (start + y) k) q }
+-- the first i sections of an image are laid out, and the next one begins at a position
+pub record Laid (s : List ℕ) (i next : ℕ) (rooms : List (Option Section)) : Type 0 where
+  pub start : i < 6 → next ≡ get_or (starts_of s) i 0
+  pub done : (k : ℕ) → k < i → get_or rooms k no_section ≡ get_or (sections_of s) k no_section
+  pub six : length rooms ≡ 6
 
 -- what is known of an image before its sections are laid out: that it is bytes, its page, which is right, and its row
 pub record Known (s : List ℕ) (k : ℕ) (r : Row) : Type 0 where
@@ -37,64 +36,48 @@ pub record Known (s : List ℕ) (k : ℕ) (r : Row) : Type 0 where
   pub right : is_page (page_in s) ≡ true
   pub row : r ≡ row_in s
 
+-- the step over section i from where it begins
+pub ready : {s : List ℕ} {k : ℕ} {r : Row} → Known s k r → (i x : ℕ) → x ≡ get_or (starts_of s) i 0 → Ready k (get_or (size_fields r) i lacking) x
+ready {s} {k} {r} known i x e = (
+  ap is_page known.page ∙ known.right,
+  (numbers r (version_in s) known.row).sizes i,
+  subst (λ (n : ℕ). n < position_bound) (sym e) ((near s known.small).starts i),
+)
+
 -- a slice's elements are bytes
-pub known : {s : List ℕ} {k : ℕ} {r : Row} → ((i : ℕ) → Fits w8 (get_or s i 0)) → k ≡ page_in s → is_page (page_in s) ≡ true → r ≡ row_in s → Known s k r
-known b p h e = record { small = λ i. omega (arith, b i); page = p; right = h; row = e }
+pub bytes : (s : List ℕ) → ((i : ℕ) → Fits w8 (get_or s i 0)) → Bytes s
+bytes s b = λ i. omega (arith, b i)
 
-module _ {s : List ℕ} {k : ℕ} {r : Row} (known : Known s k r) where
-  -- the step over section i from where it begins
-  module _ (i x : ℕ) (e : x ≡ get_or (starts_of s) i 0) where
-    ready : Ready k (get_or (size_fields r) i lacking) x
-    ready = (
-      ap is_page known.page ∙ known.right,
-      (numbers r (version_in s) known.row).sizes i,
-      subst (λ (n : ℕ). n < position_bound) (sym e) ((near s known.small).starts i),
-    )
+-- before the first section
+pub first_laid : (s : List ℕ) (page : ℕ) (rooms : List (Option Section)) → page ≡ page_in s → length rooms ≡ 6 → Laid s 0 page rooms
+first_laid s page rooms e h = record { start = λ l. e ∙ start_first s; done = λ k l. absurd (omega arith); six = h }
 
-    module _ (y : Step) (h : Stepped s k (get_or (size_fields r) i lacking) x y) where
-      on : suc i < 6 → y.next ≡ get_or (starts_of s) (suc i) 0
-      on l =
-          h.next
-          ∙ ap (λ (n : ℕ). round_up (n + number s (get_or (size_fields r) i lacking)) k) e
-          ∙ ap (λ (q : Row). round_up (get_or (starts_of s) i 0 + number s (get_or (size_fields q) i lacking)) k) known.row
-          ∙ ap (λ (n : ℕ). round_up (get_or (starts_of s) i 0 + number s (get_or (size_fields (row_in s)) i lacking)) n) known.page
-          ∙ start_next s i l
+-- a section of the version, or none where the version lacks it
+room : (b : Bool) (n p : ℕ) (P : ℕ → Section → Type 0) (o : Option ℕ) (m : Option Section) → o ≡ cond b (Some n) None → MatchOption o (m ≡ None) (λ x. IsSomeAnd m (P x))
+    → ((x : ℕ) (y : Section) → P x y → y ≡ record { position = p; size = x }) → m ≡ section_at b p n
+room true n p P o m e h t = some m (subst (λ (x : Option ℕ). MatchOption x (m ≡ None) (λ x. IsSomeAnd m (P x))) e h)
+  where
+    some : (m : Option Section) → IsSomeAnd m (P n) → m ≡ Some (record { position = p; size = n })
+    some (Some y) q = ap Some (t n y q)
+    some None q = absurd q
+room false n p P o m e h t = subst (λ (x : Option ℕ). MatchOption x (m ≡ None) (λ x. IsSomeAnd m (P x))) e h
 
-      here : i < 6 → y.section ≡ get_or (sections_of s) i no_section
-      here l =
-          h.section
-          ∙ ap (λ (n : ℕ). section_at (has (get_or (size_fields r) i lacking)) n (number s (get_or (size_fields r) i lacking))) e
-          ∙ ap (λ (q : Row). section_at (has (get_or (size_fields q) i lacking)) (get_or (starts_of s) i 0) (number s (get_or (size_fields q) i lacking))) known.row
-          ∙ section-at s i l
+module _ (s : List ℕ) (b : Bytes s) (r : Row) (re : r ≡ row_in s) (i next : ℕ) (rooms : List (Option Section)) (laid : Laid s i next rooms) (l : i < 6) where
+  module _ (o : Option ℕ) (oe : o ≡ read_at 4 s (get_or (size_fields r) i lacking)) where
+    found : o ≡ stated s (get_or (size_fields (row_in s)) i lacking)
+    found = oe ∙ number_read s (get_or (size_fields r) i lacking) 4 ((numbers r (version_in s) re).sizes i) ∙ ap (λ (x : Row). stated s (get_or (size_fields x) i lacking)) re
 
-  -- three steps, one after the other, from section i on
-  module _ (i x : ℕ) (e : x ≡ get_or (starts_of s) i 0) (l : suc (suc i) < 6) where
-    pub ready_0 : Ready k (get_or (size_fields r) i lacking) x
-    ready_0 = ready i x e
-
-    module _ (a : Step) (ha : Stepped s k (get_or (size_fields r) i lacking) x a) where
-      start_1 : a.next ≡ get_or (starts_of s) (suc i) 0
-      start_1 = on i x e a ha (omega arith)
-
-      pub here_0 : a.section ≡ get_or (sections_of s) i no_section
-      here_0 = here i x e a ha (omega arith)
-
-      pub ready_1 : Ready k (get_or (size_fields r) (suc i) lacking) a.next
-      ready_1 = ready (suc i) a.next start_1
-
-      module _ (b : Step) (hb : Stepped s k (get_or (size_fields r) (suc i) lacking) a.next b) where
-        start_2 : b.next ≡ get_or (starts_of s) (suc (suc i)) 0
-        start_2 = on (suc i) a.next start_1 b hb l
-
-        pub here_1 : b.section ≡ get_or (sections_of s) (suc i) no_section
-        here_1 = here (suc i) a.next start_1 b hb (omega arith)
-
-        pub ready_2 : Ready k (get_or (size_fields r) (suc (suc i)) lacking) b.next
-        ready_2 = ready (suc (suc i)) b.next start_2
-
-        module _ (c : Step) (hc : Stepped s k (get_or (size_fields r) (suc (suc i)) lacking) b.next c) where
-          pub here_2 : c.section ≡ get_or (sections_of s) (suc (suc i)) no_section
-          here_2 = here (suc (suc i)) b.next start_2 c hc l
-
-          pub start_3 : suc (suc (suc i)) < 6 → c.next ≡ get_or (starts_of s) (suc (suc (suc i))) 0
-          start_3 m = on (suc (suc i)) b.next start_2 c hc m
+    -- one section more
+    pub one_more : (page : ℕ) → page ≡ page_in s → (P : ℕ → Section → Type 0) (m : Option Section) → MatchOption o (m ≡ None) (λ x. IsSomeAnd m (P x))
+        → ((x : ℕ) (y : Section) → P x y → y ≡ record { position = next; size = x }) → (after : ℕ) → after ≡ round_up (next + unwrap_or o 0) page → Laid s (i + 1) after (set rooms i m)
+    one_more page pe P m h t after ae =
+        let f = get_or (size_fields (row_in s)) i lacking in
+        let e : unwrap_or o 0 ≡ number s f = ap (λ (x : Option ℕ). unwrap_or x 0) found ∙ stated_or_0 s f in
+        let p : next ≡ get_or (starts_of s) i 0 = laid.start l in
+        record {
+          start = λ k. ae ∙ rw (e, p, pe) (start_next s i (omega arith) ∙ ap (λ (n : ℕ). get_or (starts_of s) n 0) (let z : suc i ≡ i + 1 = omega arith in z));
+          done = below_more (λ k. get_or (set rooms i m) k no_section ≡ get_or (sections_of s) k no_section) i
+              (λ k q. get_or-set_other rooms i k m no_section (λ z. omega arith) ∙ laid.done k q)
+              (get_or-set_same rooms i m no_section (let t = laid.six in omega arith) ∙ room (has f) (number s f) next P o m found h t ∙ ap (λ (n : ℕ). section_at (has f) n (number s f)) p ∙ section-at s i l);
+          six = length-set rooms i m ∙ laid.six;
+        }

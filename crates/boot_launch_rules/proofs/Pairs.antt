@@ -9,6 +9,7 @@ use native.Mathlib.Omega.{arith}
 use lib.Dec.{T, ltb, eqb, eqb→eq}
 use lib.ListN.{length, get_or}
 use borrow.Author.Tests.{ltb-true, ltb-false, ne_eqb}
+use Rattle.std.specs.Prelude.{Option}
 use Rattle.rules.proofs.Table.{both_left, both_right, at}
 use Rattle.boot_launch_rules.specs.declared.Rule.{Rule}
 use Rattle.boot_launch_rules.specs.Rules.{Pair, plain, generic, bad_request, plain_rule, generic_rule, rule_of, pairs, rule_of_pair, RuleTable}
@@ -40,21 +41,21 @@ pair_at release kernel lo hi k =
     ∙ ap (λ (x : ℕ). record { release = release; kernel = x }) (let e : p.kernel ≡ kernel = omega arith in e)
 
 -- the rule at the place of a pair, whatever stands past the last one
-mapped : (ps : List Pair) (i : ℕ) (d : Rule) → i < length ps → get_or (map rule_of_pair ps) i d ≡ rule_of_pair (get_or ps i no_pair)
+mapped : (ps : List Pair) (i : ℕ) (d : Option Rule) → i < length ps → get_or (map rule_of_pair ps) i d ≡ rule_of_pair (get_or ps i no_pair)
 mapped [] i d h = absurd (not-suc-le-zero h)
 mapped (p ∷ ps) zero d h = refl
 mapped (p ∷ ps) (suc i) d h = mapped ps i d (le_of_suc-le-suc h)
 
 -- so a table has the rule of each pair at its place
-pub rule_at : (t : List Rule) → RuleTable t → (d : Rule) (release kernel : ℕ) → 8 ≤ release → release ≤ 13 → kernel ≤ 1 → get_or t (2 * (release - 8) + kernel) d ≡ rule_of release kernel
+pub rule_at : (t : List (Option Rule)) → RuleTable t → (d : Option Rule) (release kernel : ℕ) → 8 ≤ release → release ≤ 13 → kernel ≤ 1 → get_or t (2 * (release - 8) + kernel) d ≡ rule_of release kernel
 unfolding flatten
 rule_at t h d release kernel lo hi k =
-    ap (λ (x : List Rule). get_or x (2 * (release - 8) + kernel) d) h
+    ap (λ (x : List (Option Rule)). get_or x (2 * (release - 8) + kernel) d) h
     ∙ mapped pairs (2 * (release - 8) + kernel) d (omega arith)
     ∙ ap rule_of_pair (pair_at release kernel lo hi k)
 
 -- one of two that are the same
-either : (b : Bool) (x : Rule) → cond b x x ≡ x
+either : (b : Bool) (x : Option Rule) → cond b x x ≡ x
 either true x = refl
 either false x = refl
 

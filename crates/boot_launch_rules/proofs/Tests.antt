@@ -4,16 +4,18 @@ use mathlib.Core.Path.{◌≡◌}
 use mathlib.Core.Bool.{true, false}
 use Prim.Native.Nat.{ℕ, ◌≤◌, ◌<◌}
 use borrow.Author.Tests.{lt-ltb, le-ltb}
+use Rattle.std.specs.Prelude.{Option}
 use Rattle.rules.specs.First.{first}
 use Rattle.boot_launch_rules.specs.declared.Rule.{Rule}
+use Rattle.boot_launch_rules.specs.Rules.{no_rule}
 use Rattle.boot_launch_rules.specs.Tests.{outside, unwanted, launch_tests}
 
-module _ (r : Rule) (own version os : ℕ) where
-  pub first_41 : r.bad ≡ true → 41 ≡ first (launch_tests r own version os)
+module _ (r : Option Rule) (own version os : ℕ) where
+  pub first_41 : no_rule r ≡ true → 41 ≡ first (launch_tests r own version os)
   unfolding launch_tests
   first_41 h = rw h
 
-  module _ (a : r.bad ≡ false) where
+  module _ (a : no_rule r ≡ false) where
     pub first_own : 0 < own → own ≡ first (launch_tests r own version os)
     unfolding launch_tests
     first_own h = rw (a, lt-ltb 0 own h)

@@ -7,6 +7,7 @@ use Prim.Native.Nat.{ℕ, zero, suc, ◌≤◌, ◌<◌}
 use native.Mathlib.Omega.{arith}
 use lib.Dec.{lit<, ltb, eqb}
 use borrow.Author.Tests.{ltb-false, le-ltb, eq-eqb, ne_eqb}
+use Rattle.std.specs.Prelude.{Option}
 use Rattle.rules.specs.Answer.{accepted, refused, number_of, HasNumber}
 use Rattle.rules.proofs.Answer.{unless_accepted, unless_number}
 use Rattle.rules.proofs.Tests.{or_left, or_right}
@@ -15,7 +16,7 @@ use Rattle.boot_rules.specs.Sections.{version_in, os_in}
 use Rattle.boot_rules.specs.Tests as boot
 use Rattle.boot_rules.proofs.Answers as boots
 use Rattle.boot_launch_rules.specs.declared.Rule.{Rule}
-use Rattle.boot_launch_rules.specs.Rules.{rule_of}
+use Rattle.boot_launch_rules.specs.Rules.{no_rule, lowest_of, highest_of, wants_zero, rule_of}
 use Rattle.boot_launch_rules.specs.Tests.{outside, unwanted, launch_refusal, answer}
 use Rattle.boot_launch_rules.specs.Theorems.{Takes, EachOrdered, EachTaken, RefusalNumbers}
 use Rattle.boot_launch_rules.proofs.Tests.{first_41, first_own, first_42, first_43, first_none}
@@ -42,25 +43,25 @@ clash : true ≡ false → ⊥
 clash e = let z : ◌≡◌ {A = ℕ} 0 1 = cc in omega arith
 
 -- what the tests of version and os version say
-module _ (r : Rule) where
+module _ (r : Option Rule) where
   inside : (v : ℕ) → outside r v ≡ false → Takes r v
   inside v e =
       record {
-        least = ltb-false v r.lowest (or_left (ltb v r.lowest) (ltb r.highest v) e);
-        most = ltb-false r.highest v (or_right (ltb v r.lowest) (ltb r.highest v) e);
+        least = ltb-false v (lowest_of r) (or_left (ltb v (lowest_of r)) (ltb (highest_of r) v) e);
+        most = ltb-false (highest_of r) v (or_right (ltb v (lowest_of r)) (ltb (highest_of r) v) e);
       }
 
   not_outside : (v : ℕ) → Takes r v → outside r v ≡ false
-  not_outside v t = rw (le-ltb v r.lowest t.least, le-ltb r.highest v t.most)
+  not_outside v t = rw (le-ltb v (lowest_of r) t.least, le-ltb (highest_of r) v t.most)
 
-  not_unwanted : (os : ℕ) → (r.zero ≡ true → os ≡ 0) → unwanted r os ≡ false
-  not_unwanted os f = go r.zero refl
+  not_unwanted : (os : ℕ) → ((wants_zero r) ≡ true → os ≡ 0) → unwanted r os ≡ false
+  not_unwanted os f = go (wants_zero r) refl
     where
-      go : (z : Bool) → r.zero ≡ z → (z && not (eqb os 0)) ≡ false
+      go : (z : Bool) → (wants_zero r) ≡ z → (z && not (eqb os 0)) ≡ false
       go true e = rw (eq-eqb os 0 (f e))
       go false e = refl
 
-  is_unwanted : (os : ℕ) → r.zero ≡ true → 0 < os → unwanted r os ≡ true
+  is_unwanted : (os : ℕ) → (wants_zero r) ≡ true → 0 < os → unwanted r os ≡ true
   is_unwanted os z h = rw (z, ne_eqb os 0 (λ e. omega arith))
 
 -- the refusals in their order
@@ -94,7 +95,7 @@ each_taken release kernel s l e =
     refused_not : (n : ℕ) → 0 < n → answer release kernel s ≡ refused n 0 → ⊥
     refused_not n h q = let z : n ≡ 0 = sym (ap number_of q) ∙ ap number_of e in omega (arith, h, z)
 
-    good : (rule_of release kernel).bad ≡ false
+    good : no_rule (rule_of release kernel) ≡ false
     good = fails _ (λ b. refused_not 41 (lit< tt) ((each_ordered release kernel s).bad b))
 
     found : boot.answer s ≡ accepted l
@@ -105,7 +106,7 @@ each_taken release kernel s l e =
         inside (rule_of release kernel) l.version
         (fails _ (λ o. refused_not 42 (lit< tt) ((each_ordered release kernel s).version good l found (λ t. clash (sym o ∙ not_outside (rule_of release kernel) l.version t)))))
 
-    none : (rule_of release kernel).zero ≡ true → (n : ℕ) → os_in s ≡ n → os_in s ≡ 0
+    none : wants_zero (rule_of release kernel) ≡ true → (n : ℕ) → os_in s ≡ n → os_in s ≡ 0
     none z zero q = q
     none z (suc n) q = absurd (refused_not 43 (lit< tt) ((each_ordered release kernel s).os good l found taken z (omega (arith, q))))
 

@@ -6,17 +6,8 @@ ghost use Rattle.boot_launch_rules.specs.Rules.{rule_of, RuleTable};
 
 use boot_launch_rules::{GENERIC, Rule};
 
-// A bad request.
-const BAD: Rule = Rule {
-    bad: true,
-    lowest: 0,
-    highest: 0,
-    zero: false,
-};
-
 // Version 0 only.
 const ONLY_0: Rule = Rule {
-    bad: false,
     lowest: 0,
     highest: 0,
     zero: false,
@@ -24,7 +15,6 @@ const ONLY_0: Rule = Rule {
 
 // Version 1 only.
 const ONLY_1: Rule = Rule {
-    bad: false,
     lowest: 1,
     highest: 1,
     zero: false,
@@ -32,7 +22,6 @@ const ONLY_1: Rule = Rule {
 
 // Version 2 only.
 const ONLY_2: Rule = Rule {
-    bad: false,
     lowest: 2,
     highest: 2,
     zero: false,
@@ -40,7 +29,6 @@ const ONLY_2: Rule = Rule {
 
 // Version 3 only.
 const ONLY_3: Rule = Rule {
-    bad: false,
     lowest: 3,
     highest: 3,
     zero: false,
@@ -48,7 +36,6 @@ const ONLY_3: Rule = Rule {
 
 // Version 4 only.
 const ONLY_4: Rule = Rule {
-    bad: false,
     lowest: 4,
     highest: 4,
     zero: false,
@@ -56,7 +43,6 @@ const ONLY_4: Rule = Rule {
 
 // Versions 3 and 4.
 const THREE_AND_4: Rule = Rule {
-    bad: false,
     lowest: 3,
     highest: 4,
     zero: false,
@@ -64,47 +50,46 @@ const THREE_AND_4: Rule = Rule {
 
 // Version 4 only, with an os version of 0.
 const ONLY_4_ZERO: Rule = Rule {
-    bad: false,
     lowest: 4,
     highest: 4,
     zero: true,
 };
 
-// The rules of all pairs.
-const RULES: [Rule; 12] = [
-    ONLY_0, // 8 plain
-    BAD, // 8 generic
-    ONLY_1, // 9 plain
-    BAD, // 9 generic
-    ONLY_2, // 10 plain
-    BAD, // 10 generic
-    ONLY_3, // 11 plain
-    ONLY_3, // 11 generic
-    THREE_AND_4, // 12 plain
-    ONLY_4, // 12 generic
-    THREE_AND_4, // 13 plain
-    ONLY_4_ZERO, // 13 generic
+// The rules of all pairs; none for a bad request.
+const RULES: [Option<Rule>; 12] = [
+    Some(ONLY_0), // 8 plain
+    None, // 8 generic
+    Some(ONLY_1), // 9 plain
+    None, // 9 generic
+    Some(ONLY_2), // 10 plain
+    None, // 10 generic
+    Some(ONLY_3), // 11 plain
+    Some(ONLY_3), // 11 generic
+    Some(THREE_AND_4), // 12 plain
+    Some(ONLY_4), // 12 generic
+    Some(THREE_AND_4), // 13 plain
+    Some(ONLY_4_ZERO), // 13 generic
 ];
 
 // The table: its rows are what is said of all pairs.
-fn rules() -> [Rule; 12]
+fn rules() -> [Option<Rule>; 12]
     ensures { RuleTable result }
 {
     RULES
 }
 
-// The rule of a release and a kernel, 0 plain and 1 generic; a bad request for any other numbers.
-pub fn rule_of(release: u32, kernel: u32) -> Rule
+// The rule of a release and a kernel, 0 plain and 1 generic; none, a bad request, for any other numbers.
+pub fn rule_of(release: u32, kernel: u32) -> Option<Rule>
     ensures { result ≡ rule_of release kernel }
 {
     if release < 8 {
-        return BAD;
+        return None;
     }
     if 13 < release {
-        return BAD;
+        return None;
     }
     if GENERIC < kernel {
-        return BAD;
+        return None;
     }
     let table = rules();
     let at = (2 * (release - 8) + kernel) as usize;

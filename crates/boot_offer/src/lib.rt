@@ -3,27 +3,28 @@
 #![tactic(auto)]
 
 ghost use Rattle.std.specs.Prelude.{◌≡◌};
-ghost use Rattle.boot_rules.specs.Sections.{rooms_in, layout_of};
+ghost use Rattle.boot_rules.specs.Sections.{filled, rooms_in, layout_of};
 
-use boot_rules::{Layout, Rooms};
+use boot_rules::{Layout, Rooms, Section};
+
+// Whether a section is there and not empty.
+fn filled(room: Option<Section>) -> bool
+    ensures { result ≡ filled room }
+{
+    room.is_some_and(|x| x.size != 0)
+}
 
 // The layout of an image of this version whose sections take these rooms.
 pub fn offer(version: u32, rooms: Rooms) -> Layout
     ensures { result ≡ layout_of version (rooms_in rooms) }
 {
-    let kernel = rooms.kernel;
-    let ramdisk = rooms.ramdisk;
-    let second = rooms.second;
-    let recovery = rooms.recovery;
-    let dtb = rooms.dtb;
-    let signature = rooms.signature;
     Layout {
         version,
-        kernel,
-        ramdisk,
-        recovery,
-        dtb,
-        signature,
-        retired: second.size != 0,
+        kernel: rooms.kernel,
+        ramdisk: rooms.ramdisk,
+        recovery: rooms.recovery,
+        dtb: rooms.dtb,
+        signature: rooms.signature,
+        retired: filled(rooms.second),
     }
 }

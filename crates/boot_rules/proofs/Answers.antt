@@ -1,34 +1,59 @@
 -- Laws of the answer for a boot image: what the tests say of it, that no refusal has the number 0 or one above 27, and
--- that it tells the cases of the code's enum apart. Assumes nothing.
+-- that it tells the cases of the code's answer apart. Assumes nothing.
 use mathlib.Core.Path.{◌≡◌, refl, sym, ap, ◌∙◌}
 use mathlib.Core.Bool.{true, false}
-use mathlib.Core.List.{List}
-use Prim.Native.Nat.{ℕ, ◌≤◌, ◌<◌, zero-le}
+use mathlib.Core.List.{List, [], ◌∷◌}
+use Prim.Native.Nat.{ℕ, ◌-◌, ◌<◌, zero-le}
 use native.Mathlib.Omega.{arith}
-use lib.ListN.{length}
+use lib.Dec.{lit<}
+use lib.ListN.{length, get_or}
+use Rattle.std.specs.Prelude.{Result, Ok, Err}
 use Rattle.rules.specs.Answer.{Answer, accepted, refused, unless}
 use Rattle.rules.specs.First.{first}
 use Rattle.rules.proofs.Answer.{unless_refused, unless_passed, unless_accepted, accepted_same, unless_number, unless_most}
 use Rattle.rules.proofs.Tests.{first_most}
 use Rattle.boot_rules.specs.declared.Layout.{Layout}
-use Rattle.boot_rules.specs.declared.Located.{Located}
-use Rattle.boot_rules.specs.declared.Located.TheVariants.{Found, Refused}
+use Rattle.boot_rules.specs.declared.Refusal.{Refusal}
+use Rattle.boot_rules.specs.declared.Refusal.TheVariants.{TooShort, Magic, Version, HeaderSize, PageSize, SectionEnd, RecoveryOffset}
 use Rattle.boot_rules.specs.Pages.{is_page}
 use Rattle.boot_rules.specs.Sections.{version_in, page_in, sections_of, any_of, layout_of}
-use Rattle.boot_rules.specs.Tests.{overruns, head_tests, section_tests, answer, answer_of, RefusalNumbers, NumbersTo27}
+use Rattle.boot_rules.specs.Tests.{overruns, head_tests, section_tests, answer, refusal_number, found_number, answer_of, RefusalNumbers, NumbersTo27}
 use Rattle.boot_rules.proofs.Tests.{head_page, sections_end}
 
--- the case of the enum that an answer is
-abbrev case : Answer Layout → Located
-case (accepted l) = Found l
-case (refused n place) = Refused n
+-- the refusal that has a number
+abbrev pub refusal_at : ℕ → Refusal
+refusal_at n = get_or (TooShort ∷ Magic ∷ Version ∷ HeaderSize ∷ PageSize ∷ SectionEnd ∷ RecoveryOffset ∷ []) (n - 21) TooShort
 
-case_answer : (a : Located) → case (answer_of a) ≡ a
-case_answer (Found l) = refl
-case_answer (Refused n) = refl
+pub refusal_one : (r : Refusal) → refusal_at (refusal_number r) ≡ r
+refusal_one TooShort = refl
+refusal_one Magic = refl
+refusal_one Version = refl
+refusal_one HeaderSize = refl
+refusal_one PageSize = refl
+refusal_one SectionEnd = refl
+refusal_one RecoveryOffset = refl
 
--- two cases with the same answer are the same, so a contract that fixes the answer fixes the enum
-pub answer_one : (a b : Located) → answer_of a ≡ answer_of b → a ≡ b
+-- each has a number
+pub refusal_numbered : (r : Refusal) → 0 < refusal_number r
+refusal_numbered TooShort = lit< tt
+refusal_numbered Magic = lit< tt
+refusal_numbered Version = lit< tt
+refusal_numbered HeaderSize = lit< tt
+refusal_numbered PageSize = lit< tt
+refusal_numbered SectionEnd = lit< tt
+refusal_numbered RecoveryOffset = lit< tt
+
+-- the case of the code's answer that an answer is
+abbrev case : Answer Layout → Result Layout Refusal
+case (accepted l) = Ok l
+case (refused n place) = Err (refusal_at n)
+
+case_answer : (a : Result Layout Refusal) → case (answer_of a) ≡ a
+case_answer (Ok l) = refl
+case_answer (Err r) = ap Err (refusal_one r)
+
+-- two cases with the same answer are the same, so a contract that fixes the answer fixes the case
+pub answer_one : (a b : Result Layout Refusal) → answer_of a ≡ answer_of b → a ≡ b
 answer_one a b e = sym (case_answer a) ∙ ap case e ∙ case_answer b
 
 -- no refusal of a boot image has the number 0
@@ -47,13 +72,17 @@ numbers_to_27 s =
 
 module _ (s : List ℕ) where
   -- a refusal of the header is the answer
-  pub head_refuses : (n : ℕ) → n ≡ first (head_tests s) → 0 < n → refused n 0 ≡ answer s
+  head_refuses : (n : ℕ) → n ≡ first (head_tests s) → 0 < n → refused n 0 ≡ answer s
   unfolding answer
   head_refuses n e h = ap (λ (k : ℕ). refused k 0) e ∙ sym (unless_refused (first (head_tests s)) 0 _ (omega arith))
 
-  -- a refusal of the header that is 0 is none
-  pub head_passed : (n : ℕ) → n ≡ first (head_tests s) → n ≤ 0 → first (head_tests s) ≡ 0
-  head_passed n e h = omega arith
+  -- what the header's tests find is the answer, or they find nothing
+  module _ {T : Type 0} (r : Result T Refusal) (e : found_number r ≡ first (head_tests s)) where
+    pub head_err : (f : Refusal) → r ≡ Err f → refused (refusal_number f) 0 ≡ answer s
+    head_err f h = head_refuses (refusal_number f) (sym (ap found_number h) ∙ e) (refusal_numbered f)
+
+    pub head_ok : (x : T) → r ≡ Ok x → first (head_tests s) ≡ 0
+    head_ok x h = sym e ∙ ap found_number h
 
   -- a header that is not refused leaves the answer to the sections
   head_passes : first (head_tests s) ≡ 0 → answer s ≡ unless (first (section_tests s)) 0 (accepted (layout_of (version_in s) (sections_of s)))

@@ -10,7 +10,7 @@ use borrow.Author.Tests.{lt-ltb, eq-eqb, ne_eqb}
 use Rattle.boot_rules.specs.declared.Field.{Field}
 use Rattle.boot_rules.specs.declared.Layout.{Layout}
 use Rattle.boot_rules.specs.Offered.{StandingsOfAll, second_size, RetiredTold}
-use Rattle.boot_rules.specs.Sections.{version_in, section_at, starts_of, sections_of}
+use Rattle.boot_rules.specs.Sections.{version_in, size_of, section_at, starts_of, sections_of}
 use Rattle.boot_rules.specs.Table.{has, number, row_of}
 use Rattle.fields_rules.specs.Number.{number_at}
 use Rattle.boot_rules.proofs.Answers.{Passed, passed}
@@ -21,11 +21,11 @@ unfolding row_of
 standings_of_all = refl
 
 -- a section is as long as its size field says, where the version lacks it too
-size_there : (s : List ℕ) (f : Field) (p : ℕ) → (section_at (has f) p (number s f)).size ≡ number s f
+size_there : (s : List ℕ) (f : Field) (p : ℕ) → size_of (section_at (has f) p (number s f)) ≡ number s f
 unfolding number_at
 size_there s f p = go f.width
   where
-    go : (w : ℕ) → (section_at (has (record { at = f.at; width = w })) p (number s (record { at = f.at; width = w }))).size ≡ number s (record { at = f.at; width = w })
+    go : (w : ℕ) → size_of (section_at (has (record { at = f.at; width = w })) p (number s (record { at = f.at; width = w }))) ≡ number s (record { at = f.at; width = w })
     go zero = refl
     go (suc w) = rw (lt-ltb 0 (suc w) (omega arith))
 
@@ -41,7 +41,7 @@ said s l a =
     ap (λ (n : ℕ). not (eqb n 0)) (sym (size_there s _ _)) ∙ sym (or_none _) ∙ ap (λ (y : Layout). y.retired) a.layout
 
 -- versions from 3 on have none
-lacked_from_3 : (s : List ℕ) (v : ℕ) → 3 ≤ v → number_at s (row_of v).at.second (row_of v).width.second ≡ 0
+lacked_from_3 : (s : List ℕ) (v : ℕ) → 3 ≤ v → number_at s (row_of v).second.at (row_of v).second.width ≡ 0
 unfolding number_at row_of
 lacked_from_3 s zero h = absurd (omega arith)
 lacked_from_3 s (suc zero) h = absurd (omega arith)

@@ -5,6 +5,7 @@ use mathlib.Core.List.{List, [], ◌∷◌}
 use Prim.Native.Nat.{ℕ, zero, suc, ◌+◌, ◌<◌}
 use native.Mathlib.Nat.{le_of_suc-le-suc, not-suc-le-zero}
 use lib.ListN.{get_or, length}
+use Rattle.std.specs.Prelude.{Option}
 use Rattle.boot_rules.specs.declared.Field.{Field}
 use Rattle.boot_rules.specs.declared.Section.{Section}
 use Rattle.boot_rules.specs.Pages.{round_up}
@@ -12,7 +13,7 @@ use Rattle.boot_rules.specs.Sections.{row_in, page_in, no_section, section_at, s
 use Rattle.boot_rules.specs.Table.{has, number, lacking, size_fields}
 
 -- the sections of these size fields, the first of them at a position
-abbrev pub laid : List ℕ → ℕ → ℕ → List Field → List Section
+abbrev pub laid : List ℕ → ℕ → ℕ → List Field → List (Option Section)
 laid s x p fs = place s (starts s x p fs) fs
 
 module _ (s : List ℕ) (x : ℕ) where

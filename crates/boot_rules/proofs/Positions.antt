@@ -13,7 +13,7 @@ use Rattle.boot_rules.specs.declared.Field.{Field}
 use Rattle.boot_rules.specs.declared.Row.{Row}
 use Rattle.boot_rules.specs.Pages.{round_up}
 use Rattle.boot_rules.specs.Positions.{position_bound, Near}
-use Rattle.boot_rules.specs.Sections.{version_in, row_in, page_by, page_in, no_section, section_at, starts, starts_of, place, sections_of}
+use Rattle.boot_rules.specs.Sections.{version_in, row_in, page_by, page_in, position_of, no_section, section_at, starts, starts_of, place, sections_of}
 use Rattle.boot_rules.specs.Table.{has, number, row_of, size_fields}
 use Rattle.boot_rules.proofs.Reading.{page_stated, page_fixed}
 use Rattle.boot_rules.proofs.Rounding.{round_most}
@@ -33,7 +33,7 @@ far_least (f ∷ fs) p x = le_trans (let t : p ≤ p + 256 ^ f.width + x = omega
 
 -- more than the page of a row can be, stated or not
 most_page : Row → ℕ
-most_page r = 256 ^ r.width.page + 4096
+most_page r = 256 ^ r.page.width + 4096
 
 -- and how far its sections can reach
 reach : Row → ℕ
@@ -56,14 +56,14 @@ module _ (s : List ℕ) (b : Bytes s) where
 
   page_most : (r : Row) → page_by s r ≤ most_page r
   unfolding most_page
-  page_most r = go (ltb 0 r.width.page) refl
+  page_most r = go (ltb 0 r.page.width) refl
     where
-      go : (h : Bool) → ltb 0 r.width.page ≡ h → page_by s r ≤ most_page r
+      go : (h : Bool) → ltb 0 r.page.width ≡ h → page_by s r ≤ most_page r
       go true e =
-          let p = page_stated s r (ltb-true 0 r.width.page e) in
-          let n = number_bound s b r.at.page r.width.page in
+          let p = page_stated s r (ltb-true 0 r.page.width e) in
+          let n = number_bound s b r.page.at r.page.width in
           omega (arith, p, n)
-      go false e = let p = page_fixed s r (ltb-false 0 r.width.page e) in omega (arith, p)
+      go false e = let p = page_fixed s r (ltb-false 0 r.page.width e) in omega (arith, p)
 
   starts_near : (i : ℕ) → get_or (starts_of s) i 0 < position_bound
   unfolding starts_of reach
@@ -74,11 +74,11 @@ module _ (s : List ℕ) (b : Bytes s) where
       omega (arith, l, f)
 
 -- a section begins where it is placed, and one that the version lacks at 0
-there : (here : Bool) (p n : ℕ) → (section_at here p n).position ≤ p
+there : (here : Bool) (p n : ℕ) → position_of (section_at here p n) ≤ p
 there true p n = le_refl p
 there false p n = omega arith
 
-place_starts : (s ps : List ℕ) (fs : List Field) (i : ℕ) → (get_or (place s ps fs) i no_section).position ≤ get_or ps i 0
+place_starts : (s ps : List ℕ) (fs : List Field) (i : ℕ) → position_of (get_or (place s ps fs) i no_section) ≤ get_or ps i 0
 place_starts s [] fs i = omega arith
 place_starts s (p ∷ ps) [] i = omega arith
 place_starts s (p ∷ ps) (f ∷ fs) zero = there (has f) p (number s f)
@@ -94,5 +94,5 @@ near s b =
       fits = λ i. let l = below i in omega (arith, l);
     }
   where
-    below : (i : ℕ) → (get_or (place s (starts_of s) (size_fields (row_in s))) i no_section).position < position_bound
+    below : (i : ℕ) → position_of (get_or (place s (starts_of s) (size_fields (row_in s))) i no_section) < position_bound
     below i = let l = place_starts s (starts_of s) (size_fields (row_in s)) i in let n = starts_near s b i in omega (arith, l, n)

@@ -72,8 +72,8 @@ rule v l =
     let c : Bool = eqb (widths (columns (row_of v))) (row_of v).header in
     let u = both_right a (b && c) t in
     record {
-      magic = stands_at 0 8 (field (row_of v).at.magic (row_of v).width.magic) (at no_row (λ _ r. stands 0 8 (field r.at.magic r.width.magic)) table tt v h);
-      version = stands_at 40 4 (field (row_of v).at.version (row_of v).width.version) (at no_row (λ _ r. stands 40 4 (field r.at.version r.width.version)) table tt v h);
+      magic = stands_at 0 8 (row_of v).magic (at no_row (λ _ r. stands 0 8 r.magic) table tt v h);
+      version = stands_at 40 4 (row_of v).version (at no_row (λ _ r. stands 40 4 r.version) table tt v h);
       apart = all-clear (columns (row_of v)) (both_left a (b && c) t);
       last = eqb→eq (last_end (columns (row_of v))) (row_of v).header (both_left b c u);
       full = eqb→eq (widths (columns (row_of v))) (row_of v).header (both_right b c u);

@@ -9,12 +9,13 @@ use native.Mathlib.Nat.{le_of_suc-le-suc, le_refl, zero-mod, mod_self}
 use native.Mathlib.Omega.{arith}
 use lib.Dec.{lit<}
 use lib.ListN.{get_or, length}
+use Rattle.std.specs.Prelude.{Option}
 use borrow.Author.Tests.{ltb-false, ne_eqb}
 use Rattle.boot_rules.specs.declared.Layout.{Layout}
 use Rattle.boot_rules.specs.declared.Section.{Section}
 use Rattle.boot_rules.specs.declared.Field.{Field}
 use Rattle.boot_rules.specs.Pages.{round_up}
-use Rattle.boot_rules.specs.Sections.{version_in, row_in, page_in, no_section, section_at, starts_of, sections_of, any_of, layout_of, retired_of, sections_in}
+use Rattle.boot_rules.specs.Sections.{version_in, row_in, page_in, position_of, size_of, present, no_section, section_at, starts_of, sections_of, any_of, layout_of, retired_of, sections_in}
 use Rattle.boot_rules.specs.Sound.{Holds, SoundSections, SoundLayout, Sound}
 use Rattle.boot_rules.specs.Table.{has, number, size_fields}
 use Rattle.boot_rules.specs.Tests.{overruns}
@@ -23,24 +24,24 @@ use Rattle.boot_rules.proofs.Answers.{Passed, passed}
 use Rattle.boot_rules.proofs.Placing.{laid}
 use Rattle.boot_rules.proofs.Rounding.{page, round-up, round_whole}
 
-present_there : (here : Bool) (p n : ℕ) → (section_at here p n).present ≡ true → p ≤ (section_at here p n).position
+present_there : (here : Bool) (p n : ℕ) → present (section_at here p n) ≡ true → p ≤ position_of (section_at here p n)
 present_there true p n e = le_refl p
 present_there false p n e = absurd (let z : ◌≡◌ {A = ℕ} 0 1 = cc in omega arith)
 
-ends_there : (here : Bool) (p n : ℕ) → (section_at here p n).position + (section_at here p n).size ≤ p + n
+ends_there : (here : Bool) (p n : ℕ) → position_of (section_at here p n) + size_of (section_at here p n) ≤ p + n
 ends_there true p n = le_refl (p + n)
 ends_there false p n = omega arith
 
-whole_there : (here : Bool) (p n x : ℕ) → p % x ≡ 0 → (section_at here p n).position % x ≡ 0
+whole_there : (here : Bool) (p n x : ℕ) → p % x ≡ 0 → position_of (section_at here p n) % x ≡ 0
 whole_there true p n x e = e
 whole_there false p n x e = zero-mod x
 
-never_present : no_section.present ≡ true → ⊥
+never_present : present no_section ≡ true → ⊥
 never_present e = let z : ◌≡◌ {A = ℕ} 0 1 = cc in omega arith
 
 module _ (s : List ℕ) (x : ℕ) (h : 0 < x) where
   -- no section begins before the position from which they are placed
-  begins_there : (fs : List Field) (p i : ℕ) → (get_or (laid s x p fs) i no_section).present ≡ true → p ≤ (get_or (laid s x p fs) i no_section).position
+  begins_there : (fs : List Field) (p i : ℕ) → present (get_or (laid s x p fs) i no_section) ≡ true → p ≤ position_of (get_or (laid s x p fs) i no_section)
   begins_there [] p i e = absurd (never_present e)
   begins_there (f ∷ fs) p zero e = present_there (has f) p (number s f) e
   begins_there (f ∷ fs) p (suc i) e =
@@ -48,7 +49,7 @@ module _ (s : List ℕ) (x : ℕ) (h : 0 < x) where
       let b = begins_there fs (round_up (p + number s f) x) i e in
       omega arith
 
-  order_there : (fs : List Field) (p i j : ℕ) → i < j → (get_or (laid s x p fs) j no_section).present ≡ true → (get_or (laid s x p fs) i no_section).position + (get_or (laid s x p fs) i no_section).size ≤ (get_or (laid s x p fs) j no_section).position
+  order_there : (fs : List Field) (p i j : ℕ) → i < j → present (get_or (laid s x p fs) j no_section) ≡ true → position_of (get_or (laid s x p fs) i no_section) + size_of (get_or (laid s x p fs) i no_section) ≤ position_of (get_or (laid s x p fs) j no_section)
   order_there [] p i j l e = absurd (never_present e)
   order_there (f ∷ fs) p i zero l e = absurd (omega arith)
   order_there (f ∷ fs) p zero (suc j) l e =
@@ -58,33 +59,33 @@ module _ (s : List ℕ) (x : ℕ) (h : 0 < x) where
       omega arith
   order_there (f ∷ fs) p (suc i) (suc j) l e = order_there fs (round_up (p + number s f) x) i j (le_of_suc-le-suc l) e
 
-  whole_all : (fs : List Field) (p i : ℕ) → p % x ≡ 0 → (get_or (laid s x p fs) i no_section).position % x ≡ 0
+  whole_all : (fs : List Field) (p i : ℕ) → p % x ≡ 0 → position_of (get_or (laid s x p fs) i no_section) % x ≡ 0
   whole_all [] p i e = zero-mod x
   whole_all (f ∷ fs) p zero e = whole_there (has f) p (number s f) x e
   whole_all (f ∷ fs) p (suc i) e = whole_all fs (round_up (p + number s f) x) i (round_whole (p + number s f) x)
 
 -- where no section overruns, each that is not empty ends inside
-ends_inside : (n : ℕ) (y : Section) → overruns n y ≡ false → 0 < y.size → y.position + y.size ≤ n
-ends_inside n y e h = ltb-false n (y.position + y.size) (rw (ne_eqb y.size 0 (λ q. omega arith)) at e)
+ends_inside : (n : ℕ) (y : Option Section) → overruns n y ≡ false → 0 < size_of y → position_of y + size_of y ≤ n
+ends_inside n y e h = ltb-false n (position_of y + size_of y) (rw (ne_eqb (size_of y) 0 (λ q. omega arith)) at e)
 
-inside_all : (n : ℕ) (xs : List Section) → any_of (overruns n) xs ≡ false → (i : ℕ) → 0 < (get_or xs i no_section).size → (get_or xs i no_section).position + (get_or xs i no_section).size ≤ n
+inside_all : (n : ℕ) (xs : List (Option Section)) → any_of (overruns n) xs ≡ false → (i : ℕ) → 0 < size_of (get_or xs i no_section) → position_of (get_or xs i no_section) + size_of (get_or xs i no_section) ≤ n
 inside_all n [] e i h = absurd (omega arith)
 inside_all n (y ∷ ys) e zero h = ends_inside n y (or_left (overruns n y) (any_of (overruns n) ys) e) h
 inside_all n (y ∷ ys) e (suc i) h = inside_all n ys (or_right (overruns n y) (any_of (overruns n) ys) e) i h
 
 -- sections in order share no byte
-apart_of : (y z : Section) (k : ℕ) → (z.present ≡ true → y.position + y.size ≤ z.position) → (z.present ≡ false → z.size ≡ 0) → Holds y k → Holds z k → ⊥
-apart_of y z k o n a b = go z.present refl
+apart_of : (y z : Option Section) (k : ℕ) → (present z ≡ true → position_of y + size_of y ≤ position_of z) → (present z ≡ false → size_of z ≡ 0) → Holds y k → Holds z k → ⊥
+apart_of y z k o n a b = go (present z) refl
   where
-    go : (t : Bool) → z.present ≡ t → ⊥
+    go : (t : Bool) → present z ≡ t → ⊥
     go true e = let q = o e in omega arith
     go false e = let q = n e in omega arith
 
-absent_there : (here : Bool) (p n : ℕ) → (section_at here p n).present ≡ false → (section_at here p n).size ≡ 0
+absent_there : (here : Bool) (p n : ℕ) → present (section_at here p n) ≡ false → size_of (section_at here p n) ≡ 0
 absent_there true p n e = absurd (let z : ◌≡◌ {A = ℕ} 0 1 = cc in omega arith)
 absent_there false p n e = refl
 
-absent_all : (s : List ℕ) (x : ℕ) (fs : List Field) (p i : ℕ) → (get_or (laid s x p fs) i no_section).present ≡ false → (get_or (laid s x p fs) i no_section).size ≡ 0
+absent_all : (s : List ℕ) (x : ℕ) (fs : List Field) (p i : ℕ) → present (get_or (laid s x p fs) i no_section) ≡ false → size_of (get_or (laid s x p fs) i no_section) ≡ 0
 absent_all s x [] p i e = refl
 absent_all s x (f ∷ fs) p zero e = absent_there (has f) p (number s f) e
 absent_all s x (f ∷ fs) p (suc i) e = absent_all s x fs (round_up (p + number s f) x) i e
@@ -121,19 +122,19 @@ room_order (suc zero) (suc (suc j)) l = omega arith
 room_order (suc (suc i)) (suc (suc j)) l = omega arith
 
 -- sections that are rooms in their order are sound as the rooms are
-thinned : {n x : ℕ} (xs ys : List Section) → SoundSections n x xs → ((i : ℕ) → get_or xs (room i) no_section ≡ get_or ys i no_section) → SoundSections n x ys
+thinned : {n x : ℕ} (xs ys : List (Option Section)) → SoundSections n x xs → ((i : ℕ) → get_or xs (room i) no_section ≡ get_or ys i no_section) → SoundSections n x ys
 thinned {n} {x} xs ys a h =
     record {
-      inside = λ i. subst (λ (y : Section). 0 < y.size → y.position + y.size ≤ n) (h i) (a.inside (room i));
-      whole = λ i. subst (λ (y : Section). y.position % x ≡ 0) (h i) (a.whole (room i));
-      begins = λ i. subst (λ (y : Section). y.present ≡ true → x ≤ y.position) (h i) (a.begins (room i));
-      order = λ i j o. subst (λ (y : Section). (get_or ys j no_section).present ≡ true → y.position + y.size ≤ (get_or ys j no_section).position) (h i)
-          (subst (λ (z : Section). z.present ≡ true → (get_or xs (room i) no_section).position + (get_or xs (room i) no_section).size ≤ z.position) (h j) (a.order (room i) (room j) (room_order i j o)));
-      apart = λ i j k o. subst (λ (y : Section). Holds y k → Holds (get_or ys j no_section) k → ⊥) (h i)
-          (subst (λ (z : Section). Holds (get_or xs (room i) no_section) k → Holds z k → ⊥) (h j) (a.apart (room i) (room j) k (room_order i j o)));
+      inside = λ i. subst (λ (y : Option Section). 0 < size_of y → position_of y + size_of y ≤ n) (h i) (a.inside (room i));
+      whole = λ i. subst (λ (y : Option Section). position_of y % x ≡ 0) (h i) (a.whole (room i));
+      begins = λ i. subst (λ (y : Option Section). present y ≡ true → x ≤ position_of y) (h i) (a.begins (room i));
+      order = λ i j o. subst (λ (y : Option Section). present (get_or ys j no_section) ≡ true → position_of y + size_of y ≤ position_of (get_or ys j no_section)) (h i)
+          (subst (λ (z : Option Section). present z ≡ true → position_of (get_or xs (room i) no_section) + size_of (get_or xs (room i) no_section) ≤ position_of z) (h j) (a.order (room i) (room j) (room_order i j o)));
+      apart = λ i j k o. subst (λ (y : Option Section). Holds y k → Holds (get_or ys j no_section) k → ⊥) (h i)
+          (subst (λ (z : Option Section). Holds (get_or xs (room i) no_section) k → Holds z k → ⊥) (h j) (a.apart (room i) (room j) k (room_order i j o)));
     }
 
-module _ {n x : ℕ} (a b c d e f : Section) (all : SoundSections n x (a ∷ b ∷ c ∷ d ∷ e ∷ f ∷ [])) where
+module _ {n x : ℕ} (a b c d e f : Option Section) (all : SoundSections n x (a ∷ b ∷ c ∷ d ∷ e ∷ f ∷ [])) where
   offered_rooms : (v i : ℕ) → get_or (a ∷ b ∷ c ∷ d ∷ e ∷ f ∷ []) (room i) no_section ≡ get_or (sections_in (layout_of v (a ∷ b ∷ c ∷ d ∷ e ∷ f ∷ []))) i no_section
   unfolding room
   offered_rooms v zero = refl

@@ -5,7 +5,7 @@ use Rattle.rules.specs.Answer.{accepted}
 use Rattle.boot_rules.specs.declared.Layout.{Layout}
 use Rattle.boot_rules.specs.declared.Row.{Row}
 use Rattle.boot_rules.specs.Sections.{row_in}
-use Rattle.boot_rules.specs.Table.{SectionKind, field, has, number, row_of, section_kinds}
+use Rattle.boot_rules.specs.Table.{SectionKind, has, number, row_of, section_kinds}
 use Rattle.boot_rules.specs.Tests.{answer}
 
 -- what a version makes of a kind of section: it lacks the section, has it offered, or has it retired
@@ -35,7 +35,7 @@ StandingsOfAll =
 
 -- the size that an image states of its second section; 0 where the version lacks it
 abbrev pub second_size : List ℕ → ℕ
-second_size s = number s (field (row_in s).at.second (row_in s).width.second)
+second_size s = number s (row_in s).second
 
 -- what the layout of an image says of its second section: "exactly when its size is not 0, that a retired section is present", and nothing in versions that lack it, 3 and 4
 pub record Told (s : List ℕ) (l : Layout) : Type 0 where

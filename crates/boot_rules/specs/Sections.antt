@@ -1,6 +1,6 @@
 -- The sections of a boot image, as its header gives them.
 -- Assumes nothing.
-use Rattle.std.specs.Prelude.{Bool, true, false, ◌||◌, not, cond, List, [], ◌∷◌, ℕ, ◌+◌, eqb, get_or}
+use Rattle.std.specs.Prelude.{Bool, true, false, ◌||◌, not, cond, List, [], ◌∷◌, ℕ, ◌+◌, eqb, get_or, Option, Some, None}
 use Rattle.boot_rules.specs.declared.Layout.{Layout}
 use Rattle.boot_rules.specs.declared.Rooms.{Rooms}
 use Rattle.boot_rules.specs.declared.Section.{Section}
@@ -43,12 +43,27 @@ abbrev pub extra_in : List ℕ → Field
 extra_in s = extra_cmdline (row_in s)
 
 -- a section that the version lacks
-abbrev pub no_section : Section
-no_section = record { present = false; position = 0; size = 0 }
+abbrev pub no_section : Option Section
+no_section = None
+
+-- whether a section is one that the version has
+abbrev pub present : Option Section → Bool
+present None = false
+present (Some x) = true
+
+-- where a section begins; 0 for one that the version lacks
+abbrev pub position_of : Option Section → ℕ
+position_of None = 0
+position_of (Some x) = x.position
+
+-- how many bytes it has; 0 for one that the version lacks
+abbrev pub size_of : Option Section → ℕ
+size_of None = 0
+size_of (Some x) = x.size
 
 -- a section of the version, or none where the version lacks it
-abbrev pub section_at : Bool → ℕ → ℕ → Section
-section_at here position size = cond here (record { present = true; position = position; size = size }) no_section
+abbrev pub section_at : Bool → ℕ → ℕ → Option Section
+section_at here position size = cond here (Some (record { position = position; size = size })) no_section
 
 -- "each next one begins after the last, rounded up to a page": where the sections of these size fields begin, the first of them at a position
 abbrev pub starts : List ℕ → ℕ → ℕ → List Field → List ℕ
@@ -60,44 +75,44 @@ unfoldable pub starts_of : List ℕ → List ℕ
 starts_of s = starts s (page_in s) (page_in s) (size_fields (row_in s))
 
 -- the sections of these size fields, at these starts
-abbrev pub place : List ℕ → List ℕ → List Field → List Section
+abbrev pub place : List ℕ → List ℕ → List Field → List (Option Section)
 place s [] fs = []
 place s (p ∷ ps) [] = []
 place s (p ∷ ps) (f ∷ fs) = section_at (has f) p (number s f) ∷ place s ps fs
 
 -- the rooms of the sections of an image, retired ones too, those that its version lacks being marked
-unfoldable pub sections_of : List ℕ → List Section
+unfoldable pub sections_of : List ℕ → List (Option Section)
 sections_of s = place s (starts_of s) (size_fields (row_in s))
 
 -- the rooms that the code lays out, in the order of the sections
-abbrev pub rooms_in : Rooms → List Section
+abbrev pub rooms_in : Rooms → List (Option Section)
 rooms_in r = r.kernel ∷ r.ramdisk ∷ r.second ∷ r.recovery ∷ r.dtb ∷ r.signature ∷ []
 
 -- of sections and their kinds, in step, the sections whose kind passes a test
-abbrev pub choose : (SectionKind → Bool) → List SectionKind → List Section → List Section
+abbrev pub choose : (SectionKind → Bool) → List SectionKind → List (Option Section) → List (Option Section)
 choose f [] xs = []
 choose f (k ∷ ks) [] = []
 choose f (k ∷ ks) (x ∷ xs) = cond (f k) (x ∷ choose f ks xs) (choose f ks xs)
 
 -- the sections that are offered
-abbrev pub offered_of : List Section → List Section
+abbrev pub offered_of : List (Option Section) → List (Option Section)
 offered_of xs = choose (λ k. k.offered) section_kinds xs
 
 -- the sections that are retired
-abbrev pub retired_of : List Section → List Section
+abbrev pub retired_of : List (Option Section) → List (Option Section)
 retired_of xs = choose (λ k. not k.offered) section_kinds xs
 
 -- "its size is not 0"
-abbrev pub filled : Section → Bool
-filled x = not (eqb x.size 0)
+abbrev pub filled : Option Section → Bool
+filled x = not (eqb (size_of x) 0)
 
 -- whether a test holds of some section
-abbrev pub any_of : (Section → Bool) → List Section → Bool
+abbrev pub any_of : (Option Section → Bool) → List (Option Section) → Bool
 any_of f [] = false
 any_of f (x ∷ xs) = f x || any_of f xs
 
 -- "its version and the position and size of each section" that is offered, and "exactly when its size is not 0, that a retired section is present"
-abbrev pub layout_of : ℕ → List Section → Layout
+abbrev pub layout_of : ℕ → List (Option Section) → Layout
 layout_of v xs =
     record {
       version = v;
@@ -110,5 +125,5 @@ layout_of v xs =
     }
 
 -- the sections of a layout in their order
-abbrev pub sections_in : Layout → List Section
+abbrev pub sections_in : Layout → List (Option Section)
 sections_in l = l.kernel ∷ l.ramdisk ∷ l.recovery ∷ l.dtb ∷ l.signature ∷ []

@@ -1,13 +1,13 @@
 -- The tests of a boot image in their order, and the answer.
 -- Assumes nothing.
-use Rattle.std.specs.Prelude.{Bool, ◌&&◌, not, List, [], ◌∷◌, ℕ, ◌+◌, ◌≤◌, ltb, eqb, get_or, length}
+use Rattle.std.specs.Prelude.{Bool, ◌&&◌, not, List, [], ◌∷◌, ℕ, ◌+◌, ◌≤◌, ltb, eqb, get_or, length, Option, Result, Ok, Err}
 use Rattle.boot_rules.specs.declared.Layout.{Layout}
-use Rattle.boot_rules.specs.declared.Located.{Located}
-use Rattle.boot_rules.specs.declared.Located.TheVariants.{Found, Refused}
+use Rattle.boot_rules.specs.declared.Refusal.{Refusal}
+use Rattle.boot_rules.specs.declared.Refusal.TheVariants.{TooShort, Magic, Version, HeaderSize, PageSize, SectionEnd, RecoveryOffset}
 use Rattle.boot_rules.specs.declared.Section.{Section}
 use Rattle.boot_rules.specs.declared.Row.{Row}
 use Rattle.boot_rules.specs.Pages.{is_page}
-use Rattle.boot_rules.specs.Sections.{version_in, row_in, page_in, offset_in, no_section, sections_of, filled, any_of, layout_of}
+use Rattle.boot_rules.specs.Sections.{version_in, row_in, page_in, offset_in, position_of, size_of, no_section, sections_of, filled, any_of, layout_of}
 use Rattle.boot_rules.specs.Table.{has, number, header_size}
 use Rattle.fields_rules.specs.Number.{number_at}
 use Rattle.rules.specs.Answer.{Answer, accepted, refused, unless, number_of, HasNumber}
@@ -18,12 +18,12 @@ abbrev pub magic : List ℕ
 magic = 0x41 ∷ 0x4E ∷ 0x44 ∷ 0x52 ∷ 0x4F ∷ 0x49 ∷ 0x44 ∷ 0x21 ∷ []
 
 -- "recovery size not 0 and its offset not the computed position"
-abbrev pub misplaced : ℕ → Section → Bool
-misplaced offset x = filled x && not (eqb offset x.position)
+abbrev pub misplaced : ℕ → Option Section → Bool
+misplaced offset x = filled x && not (eqb offset (position_of x))
 
 -- "a section that is not empty ends past the input"
-abbrev pub overruns : ℕ → Section → Bool
-overruns n x = filled x && ltb n (x.position + x.size)
+abbrev pub overruns : ℕ → Option Section → Bool
+overruns n x = filled x && ltb n (position_of x + size_of x)
 
 -- "header size field (versions 1 to 4) not the header length"
 abbrev pub missized : List ℕ → Row → Bool
@@ -51,10 +51,25 @@ section_tests s =
 unfoldable pub answer : List ℕ → Answer Layout
 answer s = unless (first (head_tests s)) 0 (unless (first (section_tests s)) 0 (accepted (layout_of (version_in s) (sections_of s))))
 
+-- the number of each refusal
+abbrev pub refusal_number : Refusal → ℕ
+refusal_number TooShort = 21
+refusal_number Magic = 22
+refusal_number Version = 23
+refusal_number HeaderSize = 24
+refusal_number PageSize = 25
+refusal_number SectionEnd = 26
+refusal_number RecoveryOffset = 27
+
+-- the number of the refusal that a test finds, 0 where it finds none
+abbrev pub found_number : {T : Type 0} → Result T Refusal → ℕ
+found_number (Ok x) = 0
+found_number (Err r) = refusal_number r
+
 -- "All other refusals carry 0": each case of the code's answer, with its number and place or its layout
-abbrev pub answer_of : Located → Answer Layout
-answer_of (Found l) = accepted l
-answer_of (Refused n) = refused n 0
+abbrev pub answer_of : Result Layout Refusal → Answer Layout
+answer_of (Ok l) = accepted l
+answer_of (Err r) = refused (refusal_number r) 0
 
 -- no refusal of a boot image has the number 0
 abbrev pub RefusalNumbers : Type 0

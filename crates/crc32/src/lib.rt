@@ -28,6 +28,7 @@ pub fn finish(state: u32) -> u32
 }
 
 // The checksum of a slice.
+#[tactic(auto, unfolding(crc32_rules::specs::Crc::crc32))]
 pub fn checksum(src: &[u8]) -> u32
     ensures { result ≡ crc32 src.now }
 {

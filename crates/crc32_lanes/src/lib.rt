@@ -9,10 +9,9 @@ mod step;
 ghost use Rattle.std.specs.Prelude.{◌≡◌, List, ℕ, ◌%◌, length, replicate};
 ghost use Rattle.crc32_rules.specs.Crc.{crc_from};
 ghost use Rattle.crc32_rules.specs.Power.{unit};
-ghost use Rattle.crc32_rules.specs.Table.{HalfBytes};
 
 use crc32_runs::carry;
-use step::{byte, half_bytes};
+use step::byte;
 
 // One, as a reflected polynomial: the highest bit.
 const ONE: u32 = 0x80000000;
@@ -20,67 +19,12 @@ const ONE: u32 = 0x80000000;
 // From this length on, four lanes and the joins cost less than one lane.
 const LONG: usize = 32;
 
-// The states of four lanes, and what as many zero bytes as a lane has make of one.
-#[derive(Clone, Copy)]
-struct Lanes {
-    first: u32,
-    second: u32,
-    third: u32,
-    fourth: u32,
-    zeros: u32,
-}
-
 // The state after the bytes of a slice, byte after byte.
-fn serial(table: &[u32; 16], state: u32, src: &[u8]) -> u32
-    requires { HalfBytes table.now }
+#[tactic(auto, unfolding(crc32_rules::specs::Crc::crc_from))]
+fn serial(state: u32, src: &[u8]) -> u32
     ensures { result ≡ crc_from state src.now }
 {
-    let mut s = state;
-    for i in 0..src.len() {
-        s = byte(table, s, src[i]);
-    }
-    s
-}
-
-// The four slices side by side. The first lane goes on from the state, each of the others begins at 0; the fifth goes
-// over zero bytes, from one.
-fn together(
-    table: &[u32; 16],
-    state: u32,
-    first: &[u8],
-    second: &[u8],
-    third: &[u8],
-    fourth: &[u8],
-) -> Lanes
-    requires { HalfBytes table.now
-        × (length second.now ≡ length first.now)
-        × (length third.now ≡ length first.now)
-        × (length fourth.now ≡ length first.now) }
-    ensures { (result.first ≡ crc_from state first.now)
-        × (result.second ≡ crc_from 0 second.now)
-        × (result.third ≡ crc_from 0 third.now)
-        × (result.fourth ≡ crc_from 0 fourth.now)
-        × (result.zeros ≡ crc_from unit (replicate (length first.now) 0)) }
-{
-    let mut a = state;
-    let mut b = 0;
-    let mut c = 0;
-    let mut d = 0;
-    let mut z = ONE;
-    for i in 0..first.len() {
-        a = byte(table, a, first[i]);
-        b = byte(table, b, second[i]);
-        c = byte(table, c, third[i]);
-        d = byte(table, d, fourth[i]);
-        z = byte(table, z, 0);
-    }
-    Lanes {
-        first: a,
-        second: b,
-        third: c,
-        fourth: d,
-        zeros: z,
-    }
+    src.iter().fold(state, |s, &x| byte(s, x))
 }
 
 // The state after two pieces: `a` after the first, and `b` after the second, from 0. The power stands for
@@ -91,37 +35,38 @@ fn join(a: u32, b: u32, power: u32) -> u32
     carry(a, power) ^ b
 }
 
-// The state after the four quarters of a slice.
-fn quarters(table: &[u32; 16], state: u32, src: &[u8]) -> u32
-    requires { HalfBytes table.now × (length src.now % 4 ≡ 0) }
+// The state after the four quarters of a slice. The first lane goes on from the state, each of the others begins at 0;
+// the fifth goes over zero bytes, from one.
+fn quarters(state: u32, src: &[u8]) -> u32
+    requires { length src.now % 4 ≡ 0 }
     ensures { result ≡ crc_from state src.now }
 {
     let part = src.len() / 4;
-    let half = part + part;
-    let most = half + part;
-    let l = together(
-        table,
-        state,
-        &src[..part],
-        &src[part..half],
-        &src[half..most],
-        &src[most..],
-    );
-    let two = join(l.first, l.second, l.zeros);
-    let three = join(two, l.third, l.zeros);
-    join(three, l.fourth, l.zeros)
+    let mut lanes = [state, 0, 0, 0];
+    let mut zeros = ONE;
+    // Kept by index: a turn takes a byte of each quarter, which zipped iterators would give as pairs of pairs.
+    for i in 0..part {
+        lanes = [
+            byte(lanes[0], src[i]),
+            byte(lanes[1], src[part + i]),
+            byte(lanes[2], src[2 * part + i]),
+            byte(lanes[3], src[3 * part + i]),
+        ];
+        zeros = byte(zeros, 0);
+    }
+    let two = join(lanes[0], lanes[1], zeros);
+    let three = join(two, lanes[2], zeros);
+    join(three, lanes[3], zeros)
 }
 
 // The state after the bytes of a slice.
 pub fn update(state: u32, src: &[u8]) -> u32
     ensures { result ≡ crc_from state src.now }
 {
-    let table = half_bytes();
-    let mut s = state;
-    let mut from = 0;
-    if src.len() >= LONG {
-        from = src.len() - src.len() % 4;
-        s = quarters(&table, state, &src[..from]);
+    if src.len() < LONG {
+        return serial(state, src);
     }
-    serial(&table, s, &src[from..])
+    let (long, rest) = src.split_at(src.len() - src.len() % 4);
+    let s = quarters(state, long);
+    serial(s, rest)
 }

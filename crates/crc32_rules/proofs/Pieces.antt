@@ -7,8 +7,10 @@ use native.Mathlib.Numerals.{add-one}
 use native.Mathlib.Omega.{arith}
 use lib.Bits.{bit_xor, xor_zero_r}
 use lib.ListN.{length, get_or, take, drop, replicate, length-drop, take-append-drop}
+use Rattle.std.proofs.lemmas.List.Edits.{get_or-between}
 use lib.Seq.{drop-cons, drop-drop, drop-length, length-take-le}
 use Rattle.crc32_rules.specs.Crc.{steps, byte_step, crc_from}
+use Rattle.crc32_rules.specs.Power.{unit}
 use Rattle.crc32_rules.proofs.Xor.{xor_assoc}
 use Rattle.crc32_rules.proofs.Linear.{steps_xor}
 use Rattle.crc32_rules.proofs.Laws.{crc-append, crc_zeros_add}
@@ -47,12 +49,29 @@ part f t xs = take (t - f) (drop f xs)
 pub part_length : (f t : ℕ) (xs : List ℕ) → f ≤ t → t ≤ length xs → length (part f t xs) ≡ t - f
 part_length f t xs h k = length-take-le (t - f) (drop f xs) (simp length-drop (omega arith))
 
+-- a lane over a part: byte i of it is byte j of the whole
+pub lane_next : (s₀ f t : ℕ) (xs : List ℕ) (s i j x : ℕ) → i < t - f → t ≤ length xs → j ≡ f + i → x ≡ byte_step s (get_or xs j 0)
+    → Lane s₀ (part f t xs) s i → Lane s₀ (part f t xs) x (i + 1)
+lane_next s₀ f t xs s i j x h k a e l =
+    let here : get_or (part f t xs) i 0 ≡ get_or xs j 0 = get_or-between xs f t i 0 (omega arith) ∙ ap (λ (n : ℕ). get_or xs n 0) (sym a) in
+    lane_more s₀ (part f t xs) s i x (omega (arith, part_length f t xs (omega arith) k)) (e ∙ ap (byte_step s) (sym here)) l
+
 pub lane_part : (s₀ : ℕ) (xs : List ℕ) (s f t r : ℕ) → f ≤ t → r ≡ crc_from s (part f t xs) → Lane s₀ xs s f → Lane s₀ xs r t
 lane_part s₀ xs s f t r h e l =
     let back : f + (t - f) ≡ t = omega arith in
     l ∙ ap (crc_from s) (sym (take-append-drop (t - f) (drop f xs)))
     ∙ crc-append s (part f t xs) (drop (t - f) (drop f xs))
     ∙ ap₂ (λ (y : ℕ) (ys : List ℕ). crc_from y ys) (sym e) (drop-drop (t - f) f xs ∙ ap (λ (j : ℕ). drop j xs) back)
+
+-- a lane that has gone over its part from 0, joined to the lane before it: z is what as many zero bytes make of one
+pub lane_joined : (s₀ : ℕ) (xs : List ℕ) (s f t z i l r : ℕ) → f ≤ t → t ≤ length xs → i ≡ t - f → z ≡ crc_from unit (replicate i 0)
+    → Lane 0 (part f t xs) l i
+    → ((ys : List ℕ) → z ≡ crc_from unit (replicate (length ys) 0) → l ≡ crc_from 0 ys → r ≡ crc_from s ys)
+    → Lane s₀ xs s f → Lane s₀ xs r t
+lane_joined s₀ xs s f t z i l r h k e power lane join before =
+    let long : i ≡ length (part f t xs) = e ∙ sym (part_length f t xs h k) in
+    let zeros : z ≡ crc_from unit (replicate (length (part f t xs)) 0) = power ∙ ap (λ (n : ℕ). crc_from unit (replicate n 0)) long in
+    lane_part s₀ xs s f t r h (join (part f t xs) zeros (lane_done 0 (part f t xs) l i long lane)) before
 
 -- ---- two pieces apart
 

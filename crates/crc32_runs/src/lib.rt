@@ -19,6 +19,7 @@ const WORD: u32 = 0xEDB88320;
 const FIXED: u32 = 0x39A38F74;
 
 // One bit a step. The mask is all ones where the lowest bit is 1, so that nothing branches on it.
+#[tactic(auto, using(crc32_rules::proofs::Linear::bit_masked))]
 fn one(state: u32) -> u32
     ensures { result ≡ bit state }
 {
@@ -26,6 +27,7 @@ fn one(state: u32) -> u32
 }
 
 // `a` where the highest bit of `b` is 1, and 0 elsewhere.
+#[tactic(auto, using(crc32_rules::proofs::Linear::times_lt))]
 fn term(b: u32, a: u32) -> u32
     ensures { result ≡ b / 2 ^ 31 * a }
 {
@@ -64,11 +66,12 @@ fn run(state: u32, word: u32, power: u32, n: u64) -> u32
     let mut s = state ^ fixed;
     let mut p = power;
     let mut m = n;
+    // Kept a `while`: the count is halved, not counted through.
     while m > 0 {
         if m % 2 == 1 {
             s = product(s, p);
         }
-        m = m / 2;
+        m /= 2;
         if m > 0 {
             p = product(p, p);
         }
@@ -94,6 +97,7 @@ pub fn update_word(state: u32, word: u32, n: u64) -> u32
 }
 
 // The state after as many zero bytes as a power stands for; the power is what they make of one.
+#[tactic(auto, using(crc32_rules::proofs::Runs::zeros_times))]
 pub fn carry(state: u32, power: u32) -> u32
     ensures { (n : ℕ) → power ≡ crc_from unit (replicate n 0) → result ≡ crc_from state (replicate n 0) }
 {

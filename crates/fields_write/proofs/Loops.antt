@@ -1,60 +1,54 @@
--- The turns of the loops that write a field and copy bytes.
+-- A number's bytes as std gives them, bytes that have no room, and the turns of a loop that stores bytes.
 -- Assumes nothing.
-use mathlib.Core.Path.{◌≡◌, refl, sym, ◌∙◌}
+use mathlib.Core.Path.{◌≡◌, refl, sym, ap, ap₂, ◌∙◌}
 use mathlib.Core.Bool.{Bool, true, false}
-use mathlib.Core.List.{List}
-use Prim.Native.Nat.{ℕ, suc, ◌+◌, ◌-◌, ◌/◌, ◌%◌, ◌≤◌, ◌<◌}
-use native.Mathlib.Nat.{add-zero, sub-zero}
+use mathlib.Core.List.{List, ◌∷◌}
+use Prim.Native.Nat.{ℕ, zero, suc, ◌+◌, ◌-◌, ◌/◌, ◌%◌, ◌^◌, ◌≤◌, ◌<◌, min}
+use native.Mathlib.Nat.{pow-suc, div-div-eq-div-mul}
 use native.Mathlib.Omega.{arith}
 use borrow.Author.Tests.{ltb-true, ltb-false}
 use lib.Dec.{ltb}
-use lib.ListN.{length, get_or, set, drop, length-set, drop_of_length-le}
-use lib.Seq.{sets, drop-cons}
+use lib.ListN.{length, get_or, set, take, drop, length-set, drop_of_length-le, take-append-drop}
+use lib.Seq.{sets, drop-cons, length-sets, length-take-le, take_all}
 use Rattle.fields_rules.specs.Number.{bytes}
-use Rattle.fields_rules.proofs.Sets.{sets_past}
+use Rattle.fields_rules.proofs.Sets.{sets_past, sets-append}
+use Rattle.std.specs.Int.{bytes_low_first, byte_at}
 
--- what is left is one byte more than after the next
-sub_lower : (i w : ℕ) → i < w → w - i ≡ suc (w - (i + 1))
-sub_lower i w h = omega arith
+-- the bytes of a number that std gives, from byte i on, are those of the format
+bytes_le : (i w v : ℕ) → bytes_low_first i w v ≡ bytes w (v / 256 ^ i)
+bytes_le i zero v = refl
+bytes_le i (suc w) v =
+    let here : byte_at i v ≡ v / 256 ^ i % 256 = here_is i in
+    let next : v / 256 ^ suc i ≡ v / 256 ^ i / 256 = rw (pow-suc 256 i) (sym (div-div-eq-div-mul v (256 ^ i) 256)) in
+    ap₂ (λ (b : ℕ) (bs : List ℕ). b ∷ bs) here (bytes_le (suc i) w v ∙ ap (bytes w) next)
+  where
+    here_is : (i : ℕ) → byte_at i v ≡ v / 256 ^ i % 256
+    here_is zero = omega arith
+    here_is (suc i) = refl
 
--- what is stored of a field of w bytes, up to byte i: what is left of its value gives the rest
-pub record Stored (s : List ℕ) (at w v : ℕ) (out : List ℕ) (left i : ℕ) : Type 0 where
-  pub same_length : length out ≡ length s
-  pub inside : i ≤ w
-  pub rest : sets out (at + i) (bytes (w - i) left) ≡ sets s at (bytes w v)
+-- and so are all of them
+pub le_bytes : (w v : ℕ) → bytes_low_first 0 w v ≡ bytes w v
+le_bytes w v = let all : v / 256 ^ 0 ≡ v = omega arith in bytes_le 0 w v ∙ ap (bytes w) all
 
--- before the first byte nothing is stored
-pub stored_none : (s : List ℕ) (at w v : ℕ) → Stored s at w v s v 0
-stored_none s at w v = record { same_length = refl; inside = omega arith; rest = rw (add-zero at, sub-zero w) }
-
--- one byte more is stored
-pub stored_more : (s : List ℕ) (at w v : ℕ) (out : List ℕ) (left i : ℕ) → Stored s at w v out left i → i < w
-    → Stored s at w v (set out (at + i) (left % 256)) (left / 256) (i + 1)
-stored_more s at w v out left i stored h =
-    let next : at + (i + 1) ≡ suc (at + i) = omega arith in
-    let here : sets out (at + i) (bytes (suc (w - (i + 1))) left) ≡ sets s at (bytes w v) =
-    rw (sub_lower i w h) at stored.rest in
-    record {
-      same_length = length-set out (at + i) (left % 256) ∙ stored.same_length;
-      inside = omega arith;
-      rest = rw next here;
-    }
-
--- after the last, the field
-pub stored_all : (s : List ℕ) (at w v : ℕ) (out : List ℕ) (left i : ℕ) → Stored s at w v out left i → w ≤ i → out ≡ sets s at (bytes w v)
-stored_all s at w v out left i stored h =
-    let none : w - i ≡ 0 = omega (arith, stored.inside) in
-    rw none at stored.rest
+-- bytes past the end need not be left out
+pub sets_room : (s src : List ℕ) (at fit : ℕ) → fit ≡ min (length src) (length s - at) → sets s at (take fit src) ≡ sets s at src
+sets_room s src at fit e = go (ltb fit (length src)) refl
+  where
+    go : (x : Bool) → ltb fit (length src) ≡ x → sets s at (take fit src) ≡ sets s at src
+    go true h =
+        let l = ltb-true fit (length src) h in
+        let some : length (take fit src) ≡ fit = length-take-le fit src (omega arith) in
+        let out : length (sets s at (take fit src)) ≡ length s = length-sets s at (take fit src) in
+        sym (sets_past (drop fit src) (sets s at (take fit src)) (at + length (take fit src)) (omega arith))
+        ∙ sym (sets-append (take fit src) (drop fit src) s at)
+        ∙ ap (sets s at) (take-append-drop fit src)
+    go false h = ap (sets s at) (take_all fit src (ltb-false fit (length src) h))
 
 -- so many bytes are copied, and the rest from here on gives the whole
 pub record Copied (s : List ℕ) (at : ℕ) (src out : List ℕ) (i : ℕ) : Type 0 where
   pub same_length : length out ≡ length s
   pub inside : i ≤ length src
   pub rest : sets out (at + i) (drop i src) ≡ sets s at src
-
--- before the first byte none is
-pub copied_none : (s : List ℕ) (at : ℕ) (src : List ℕ) → Copied s at src s 0
-copied_none s at src = record { same_length = refl; inside = omega arith; rest = rw add-zero }
 
 -- one byte more is copied
 pub copied_more : (s : List ℕ) (at : ℕ) (src out : List ℕ) (i : ℕ) → Copied s at src out i → i < length src

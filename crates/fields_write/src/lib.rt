@@ -3,7 +3,7 @@
 // A number that does not fit whole is not written; a copy stores the bytes that have room.
 #![tactic(auto)]
 
-ghost use Rattle.std.specs.Prelude.{◌≡◌, ◌-◌, min};
+ghost use Rattle.std.specs.Prelude.{◌≡◌, ◌-◌, ◌≤◌, length, min};
 ghost use Rattle.std.proofs.lemmas.List.Edits.{sets};
 ghost use Rattle.fields_rules.specs.Number.{bytes, placed};
 
@@ -11,54 +11,61 @@ ghost use Rattle.fields_rules.specs.Number.{bytes, placed};
 pub fn room(len: usize, at: usize, n: usize) -> usize
     ensures { result ≡ min n (len - at) }
 {
-    if len <= at {
-        return 0;
-    }
-    if len - at < n { len - at } else { n }
+    n.min(len.saturating_sub(at))
 }
 
-// The `width` low bytes of a number at `at`, where they fit whole.
-fn write(out: &mut [u8], at: usize, width: usize, value: u64)
-    ensures { out.new ≡ placed out.old at (bytes width value) }
+// The bytes of a slice stored from `at` on, where all have room. Kept a loop: `copy_from_slice` may become a call of the C
+// library, and the static library needs nothing from outside.
+#[tactic(auto, using(crate::proofs::Loops::copied_all))]
+fn store(out: &mut [u8], at: usize, src: &[u8])
+    requires { length src.now ≤ length out.old - at }
+    ensures { out.new ≡ sets out.old at src.now }
 {
-    if room(out.len(), at, width) < width {
+    for (i, &x) in src.iter().enumerate() {
+        out[at + i] = x;
+    }
+}
+
+// The bytes of a number at `at`, where they fit whole.
+#[tactic(auto, using(fields_rules::proofs::Laws::placed_none, fields_rules::proofs::Laws::placed_room))]
+fn write(out: &mut [u8], at: usize, number: &[u8])
+    ensures { out.new ≡ placed out.old at number.now }
+{
+    if room(out.len(), at, number.len()) < number.len() {
         return;
     }
-    let mut left = value;
-    let mut i: usize = 0;
-    while i < width {
-        out[at + i] = (left % 256) as u8;
-        left = left / 256;
-        i = i + 1;
-    }
+    store(out, at, number);
 }
 
 // Two bytes at `at`.
+#[tactic(auto, using(crate::proofs::Loops::le_bytes))]
 pub fn write16(out: &mut [u8], at: usize, value: u16)
     ensures { out.new ≡ placed out.old at (bytes 2 value) }
 {
-    write(out, at, 2, value as u64);
+    write(out, at, &u16::to_le_bytes(value));
 }
 
 // Four bytes at `at`.
+#[tactic(auto, using(crate::proofs::Loops::le_bytes))]
 pub fn write32(out: &mut [u8], at: usize, value: u32)
     ensures { out.new ≡ placed out.old at (bytes 4 value) }
 {
-    write(out, at, 4, value as u64);
+    write(out, at, &u32::to_le_bytes(value));
 }
 
 // Eight bytes at `at`.
+#[tactic(auto, using(crate::proofs::Loops::le_bytes))]
 pub fn write64(out: &mut [u8], at: usize, value: u64)
     ensures { out.new ≡ placed out.old at (bytes 8 value) }
 {
-    write(out, at, 8, value);
+    write(out, at, &u64::to_le_bytes(value));
 }
 
 // The bytes of a slice stored from `at` on, as many as have room.
+#[tactic(auto, using(crate::proofs::Loops::sets_room))]
 pub fn copy(out: &mut [u8], at: usize, src: &[u8])
     ensures { out.new ≡ sets out.old at src.now }
 {
-    for i in 0..room(out.len(), at, src.len()) {
-        out[at + i] = src[i];
-    }
+    let fit = room(out.len(), at, src.len());
+    store(out, at, &src[..fit]);
 }

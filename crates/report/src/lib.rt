@@ -2,9 +2,9 @@
 #![tactic(auto)]
 
 ghost use Rattle.std.specs.Prelude.{◌≡◌, []};
-ghost use Rattle.report_rules.specs.Reports.{report_of, counted};
+ghost use Rattle.report_rules.specs.Reports.{report_of, counted_of, counted};
 
-use report_rules::{Counted, Report};
+use report_rules::{Overflow, Report};
 pub use report_sums::add;
 
 // The report of no images.
@@ -22,9 +22,8 @@ pub fn empty() -> Report
 }
 
 // A report with one image more, judged for a partition of so many bytes.
-pub fn count(report: Report, image: &[u8], partition_len: u64) -> Counted
-    ensures { result ≡ counted report (record { image = image.now; room = partition_len }) }
+pub fn count(report: Report, image: &[u8], partition_len: u64) -> Result<Report, Overflow>
+    ensures { counted_of result ≡ counted report (record { image = image.now; room = partition_len }) }
 {
-    let own = report_image::report_of(image, partition_len);
-    add(report, own)
+    add(report, report_image::report_of(image, partition_len))
 }

@@ -8,14 +8,7 @@ ghost use Rattle.report_rules.specs.Images.{refused_by};
 ghost use Rattle.report_rules.specs.Reports.{report_of};
 
 use report_rules::Report;
-use sparse_rules::{Counts, Header, Verdict};
-
-// Two counts of blocks together.
-fn together(x: u32, y: u32) -> u64
-    ensures { result ≡ x + y }
-{
-    x as u64 + y as u64
-}
+use sparse_rules::{Counts, Header};
 
 // The report of an accepted image with this header and these counts of blocks.
 fn accepted(header: Header, counts: Counts) -> Report
@@ -23,9 +16,9 @@ fn accepted(header: Header, counts: Counts) -> Report
 {
     Report {
         accepted: 1,
-        blocks: counts.written as u64,
+        blocks: u64::from(counts.written),
         bytes: sparse_read::bytes_of(counts.written, header.block),
-        skipped: together(counts.dont_care, counts.unknown),
+        skipped: u64::from(counts.dont_care) + u64::from(counts.unknown),
         largest: sparse_read::bytes_of(header.total, header.block),
         refused: [0; 11],
     }
@@ -36,11 +29,8 @@ fn refused_once(number: u32) -> [u64; 11]
     ensures { result ≡ tab (λ n. refused_by n (refused number 0)) 1 11 }
 {
     let mut counts = [0; 11];
-    if 1 <= number {
-        if number <= 11 {
-            let i = (number - 1) as usize;
-            counts[i] = 1;
-        }
+    if (1..=11).contains(&number) {
+        counts[(number - 1) as usize] = 1;
     }
     counts
 }
@@ -64,9 +54,8 @@ fn refused(number: u32) -> Report
 pub fn report_of(image: &[u8], partition_len: u64) -> Report
     ensures { result ≡ report_of (record { image = image.now; room = partition_len } ∷ []) }
 {
-    let verdict = sparse_judge::judge(image, partition_len);
-    match verdict {
-        Verdict::Accepted(counts) => accepted(sparse_read::read_header(image), counts),
-        Verdict::Refused(refusal) => refused(refusal.number),
+    match sparse_judge::judge(image, partition_len) {
+        Ok(counts) => accepted(sparse_read::read_header(image), counts),
+        Err(refusal) => refused(refusal.number),
     }
 }

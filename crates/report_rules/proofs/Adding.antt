@@ -5,8 +5,7 @@ use mathlib.Core.Bool.{Bool, true, false}
 use mathlib.Core.List.{[], ◌∷◌}
 use native.Mathlib.Omega.{arith}
 use Rattle.report_rules.specs.declared.Report.{Report}
-use Rattle.report_rules.specs.declared.Counted.{Counted}
-use Rattle.report_rules.specs.Reports.{report_of, sum, fits, added, counted}
+use Rattle.report_rules.specs.Reports.{Counted, report_of, sum, fits, added, counted}
 use Rattle.report_rules.specs.Theorems.{Fits, EachAdding, EachCounting, EachGrouping}
 use Rattle.report_rules.proofs.Fitting.{facts_fit, facts_pass}
 use Rattle.report_rules.proofs.Sums.{sum_either, sum_grouped, left_fits, sum_counts}

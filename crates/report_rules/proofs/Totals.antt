@@ -20,7 +20,7 @@ use Rattle.sparse_rules.proofs.Image.{answer_accepted, answer_refused, effect_ac
 use Rattle.sparse_rules.proofs.Theorems as judge
 use Rattle.report_rules.specs.Images.{Item, answer_to, accepted_by, blocks_by, bytes_by, skipped_by, extent_by, refused_by}
 use Rattle.report_rules.specs.Reports.{total, greatest, refusals, report_of}
-use Rattle.report_rules.specs.Theorems.{sum_of, Extent, EachTotals, images}
+use Rattle.report_rules.specs.Theorems.{sum_of, Extent, EachTotals}
 
 -- sums of sums
 sum_tab : (f g : ℕ → ℕ) (i n : ℕ) → sum_of (tab (λ m. f m + g m) i n) ≡ sum_of (tab f i n) + sum_of (tab g i n)

@@ -7,9 +7,8 @@ use Prim.Native.Nat.{ℕ, ◌+◌}
 use native.Mathlib.Omega.{arith}
 use Rattle.sparse_rules.proofs.Cells.{tab_same}
 use Rattle.report_rules.specs.declared.Report.{Report}
-use Rattle.report_rules.specs.declared.Counted.{Counted}
 use Rattle.report_rules.specs.Images.{Item, answer_to, accepted_by, blocks_by, bytes_by, skipped_by, extent_by, refused_by}
-use Rattle.report_rules.specs.Reports.{total, greatest, refusals, report_of, all_small, fits, added, counted}
+use Rattle.report_rules.specs.Reports.{Counted, total, greatest, refusals, report_of, all_small, fits, added, counted}
 use Rattle.report_rules.specs.Theorems.{Fits, Way, none, count_next, add_both, images, carried_on, made, in_turn, EveryWay}
 use Rattle.report_rules.proofs.Fitting.{fits_facts, pass_facts}
 use Rattle.report_rules.proofs.Sums.{same_parts, joined, parts_fit}

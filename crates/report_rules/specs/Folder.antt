@@ -1,13 +1,13 @@
 -- The images of a folder: which are counted, and what is printed.
 -- Assumes nothing.
-use Rattle.std.specs.Prelude.{◌≡◌, false, cond, List, [], ◌∷◌, ◌++◌, map, ℕ, ◌<◌, ◌^◌, ltb, eqb, length}
+use Rattle.std.specs.Prelude.{◌≡◌, Bool, true, false, cond, List, [], ◌∷◌, ◌++◌, map, ℕ, ◌<◌, ◌^◌, ltb, eqb, length}
+use Rattle.std.specs.declared.ops.ControlFlow.{ControlFlow}
+use Rattle.std.specs.declared.ops.ControlFlow.TheVariants.{Continue, Break}
 use Rattle.text_rules.specs.Input.{longest, partition}
 use Rattle.text_rules.specs.Words.{ascii, decimal}
 use Rattle.report_rules.specs.declared.Report.{Report}
-use Rattle.report_rules.specs.declared.Counted.{Counted}
-use Rattle.report_rules.specs.declared.Turn.{Turn}
 use Rattle.report_rules.specs.Images.{Item}
-use Rattle.report_rules.specs.Reports.{report_of, counted}
+use Rattle.report_rules.specs.Reports.{Counted, report_of, counted}
 use Rattle.report_rules.specs.Text.{text}
 
 -- "`1.img`, `2.img` and on": the name of the file of a number
@@ -28,6 +28,16 @@ unfoldable pub printed : List (List ℕ) → List ℕ
 printed ss = text (report_of (map judged_file (taken ss)))
 
 -- ---- file after file
+
+-- what the program has after a file: the report, and whether it goes on to the next file
+pub record Turn : Type 0 where
+  pub more : Bool
+  pub report : Report
+
+-- the answer about a file
+abbrev pub turn_of : ControlFlow Report Report → Turn
+turn_of (Continue r) = record { more = true; report = r }
+turn_of (Break r) = record { more = false; report = r }
 
 -- what counting a file leaves: a refusal ends it, with the report as it was
 abbrev pub turn_by : Counted → Turn

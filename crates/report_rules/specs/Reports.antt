@@ -1,9 +1,9 @@
 -- The report of a list of images, and how reports are added.
 -- Assumes nothing.
-use Rattle.std.specs.Prelude.{Bool, true, ◌&&◌, cond, List, [], ◌∷◌, ℕ, max, ◌+◌, ◌^◌, ltb, get_or}
+use Rattle.std.specs.Prelude.{Bool, true, ◌&&◌, cond, List, [], ◌∷◌, ℕ, max, ◌+◌, ◌^◌, ltb, get_or, Result, Ok, Err}
 use Rattle.sparse_rules.specs.Cells.{tab}
 use Rattle.report_rules.specs.declared.Report.{Report}
-use Rattle.report_rules.specs.declared.Counted.{Counted}
+use Rattle.report_rules.specs.declared.Overflow.{Overflow}
 use Rattle.report_rules.specs.Images.{Item, answer_to, accepted_by, blocks_by, bytes_by, skipped_by, extent_by, refused_by}
 
 -- the sum over a list of images
@@ -60,6 +60,16 @@ all_small (n ∷ ns) = small n && all_small ns
 -- no total passes 64 bits; the largest is no total
 unfoldable pub fits : Report → Bool
 fits r = small r.accepted && small r.blocks && small r.bytes && small r.skipped && all_small r.refused
+
+-- what counting and adding come to: 0 with the new report, or a refusal's number with the report as it was
+pub record Counted : Type 0 where
+  pub number : ℕ
+  pub report : Report
+
+-- the answer of counting and adding
+abbrev pub counted_of : Result Report Overflow → Counted
+counted_of (Ok r) = record { number = 0; report = r }
+counted_of (Err e) = record { number = 61; report = e.report }
 
 -- "61 exactly when a total would pass 64 bits .. the reports then unchanged"; else the sums
 unfoldable pub added : Report → Report → Counted

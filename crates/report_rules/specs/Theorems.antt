@@ -8,9 +8,8 @@ use Rattle.sparse_rules.specs.Header.{block_size, total_blocks}
 use Rattle.sparse_rules.specs.Cells.{count}
 use Rattle.sparse_rules.specs.Judge.{effect}
 use Rattle.report_rules.specs.declared.Report.{Report}
-use Rattle.report_rules.specs.declared.Counted.{Counted}
 use Rattle.report_rules.specs.Images.{Item, answer_to, accepted_by}
-use Rattle.report_rules.specs.Reports.{total, report_of, sum, added, counted}
+use Rattle.report_rules.specs.Reports.{Counted, total, report_of, sum, added, counted}
 
 -- ---- 61
 

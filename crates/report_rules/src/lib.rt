@@ -13,16 +13,8 @@ pub struct Report {
     pub refused: [u64; 11],
 }
 
-// What counting and adding answer: 0 with the new report, or the refusal's number with the report as it was.
+// A total would pass 64 bits, which is refused with the number 61: the report as it was.
 #[derive(Clone, Copy)]
-pub struct Counted {
-    pub number: u32,
-    pub report: Report,
-}
-
-// What the program has after a file: the report, and whether it goes on to the next file.
-#[derive(Clone, Copy)]
-pub struct Turn {
-    pub more: bool,
+pub struct Overflow {
     pub report: Report,
 }

@@ -1,85 +1,42 @@
 // Two reports added.
 #![tactic(auto)]
 
-ghost use Rattle.std.specs.Prelude.{◌≡◌, ◌+◌, ◌%◌, ◌^◌, max};
+ghost use Rattle.std.specs.Prelude.{◌≡◌, MatchOption};
 ghost use Rattle.sparse_rules.specs.Cells.{tab};
-ghost use Rattle.report_rules.specs.Reports.{counts_at, small, all_small, added};
+ghost use Rattle.report_rules.specs.Reports.{counts_at, sum, counted_of, added};
+ghost use Rattle.report_rules.specs.Theorems.{Fits};
+ghost use Rattle.report_sums.specs.Rows.{RowFits};
 
-use report_rules::{Counted, Report};
+use report_rules::{Overflow, Report};
 
-// A sum in 64 bits, and whether it has no more.
-#[derive(Clone, Copy)]
-struct Sum {
-    fits: bool,
-    value: u64,
-}
-
-// The sums of two rows of counts, each in 64 bits, and whether none has more.
-#[derive(Clone, Copy)]
-struct Sums {
-    fit: bool,
-    values: [u64; 11],
-}
-
-// Two numbers added.
-fn total(x: u64, y: u64) -> Sum
-    ensures { (result.fits ≡ small (x + y)) × (result.value ≡ (x + y) % 2 ^ 64) }
+// Two rows of counts added, where each sum has 64 bits.
+fn row(a: &[u64; 11], b: &[u64; 11]) -> Option<[u64; 11]>
+    ensures { MatchOption result (RowFits a.now b.now → ⊥) (λ sums. RowFits a.now b.now × (sums ≡ tab (counts_at a.now b.now) 0 11)) }
 {
-    Sum {
-        fits: y <= u64::MAX - x,
-        value: std::num::wrapping_add_u64(x, y),
+    let mut sums = [0; 11];
+    for (i, sum) in sums.iter_mut().enumerate() {
+        *sum = a[i].checked_add(b[i])?;
     }
+    Some(sums)
 }
 
-// The larger of two numbers.
-fn larger(x: u64, y: u64) -> u64
-    ensures { result ≡ max x y }
+// Two reports added, where each total has 64 bits.
+fn sum(a: &Report, b: &Report) -> Option<Report>
+    ensures { MatchOption result (Fits (sum a.now b.now) → ⊥) (λ both. Fits (sum a.now b.now) × (both ≡ sum a.now b.now)) }
 {
-    if x < y { y } else { x }
+    Some(Report {
+        accepted: a.accepted.checked_add(b.accepted)?,
+        blocks: a.blocks.checked_add(b.blocks)?,
+        bytes: a.bytes.checked_add(b.bytes)?,
+        skipped: a.skipped.checked_add(b.skipped)?,
+        largest: a.largest.max(b.largest),
+        refused: row(&a.refused, &b.refused)?,
+    })
 }
 
-// Two rows of counts added.
-fn totals(a: [u64; 11], b: [u64; 11]) -> Sums
-    ensures { (result.fit ≡ all_small (tab (counts_at a b) 0 11)) × (result.values ≡ tab (λ i. counts_at a b i % 2 ^ 64) 0 11) }
+// Two reports added: the sums, or the first report as it was where a total would pass 64 bits.
+pub fn add(a: Report, b: Report) -> Result<Report, Overflow>
+    ensures { counted_of result ≡ added a b }
 {
-    let mut fit = true;
-    let mut values = [0; 11];
-    for i in 0usize..11 {
-        let sum = total(a[i], b[i]);
-        fit = fit & sum.fits;
-        values[i] = sum.value;
-    }
-    Sums { fit, values }
-}
-
-// Two reports added: 0 with the sums, or 61 with the first report where a total would pass 64 bits.
-pub fn add(a: Report, b: Report) -> Counted
-    ensures { result ≡ added a b }
-{
-    let accepted = total(a.accepted, b.accepted);
-    let blocks = total(a.blocks, b.blocks);
-    let bytes = total(a.bytes, b.bytes);
-    let skipped = total(a.skipped, b.skipped);
-    let x = a.refused;
-    let y = b.refused;
-    let refused = totals(x, y);
-    if accepted.fits & blocks.fits & bytes.fits & skipped.fits & refused.fit {
-        let counts = refused.values;
-        let sum = Report {
-            accepted: accepted.value,
-            blocks: blocks.value,
-            bytes: bytes.value,
-            skipped: skipped.value,
-            largest: larger(a.largest, b.largest),
-            refused: counts,
-        };
-        return Counted {
-            number: 0,
-            report: sum,
-        };
-    }
-    Counted {
-        number: 61,
-        report: a,
-    }
+    sum(&a, &b).ok_or(Overflow { report: a })
 }

@@ -1,24 +1,26 @@
 // The totals over the images of a folder: reads 1.img, 2.img and on, and prints their report.
 #![tactic(auto)]
 
-use report_rules::{Report, Turn};
+use report_rules::Report;
 use std::fs::File;
 use std::io;
 use std::io::{ErrorKind, Read, Write};
+use std::ops::ControlFlow;
 use std::rt::Files;
 
 // The file of a number, counted; one that is missing ends it. One byte more than an image may have is read, so that a
 // longer file is seen. A read that fails ends the file as its end does, so a folder is a file of no bytes; no memory for the
 // bytes is a failure of its own.
-fn take(rt: &(impl Files + AllocGlobal), report: Report, index: u64) -> io::Result<Turn> {
+fn take(
+    rt: &(impl Files + AllocGlobal),
+    report: Report,
+    index: u64,
+) -> io::Result<ControlFlow<Report, Report>> {
     let mut name = [0u8; 24];
     let len = report_folder::put_name(&mut name, index);
     let path = str::from_utf8(&name[..len]).unwrap();
     let Ok(file) = File::open(rt, path) else {
-        return Ok(Turn {
-            more: false,
-            report,
-        });
+        return Ok(ControlFlow::Break(report));
     };
     let mut bytes = Vec::new(rt.alloc());
     if let Err(error) = file.take(65537).read_to_end(&mut bytes) {
@@ -33,10 +35,9 @@ fn take(rt: &(impl Files + AllocGlobal), report: Report, index: u64) -> io::Resu
 fn totals(rt: &(impl Files + AllocGlobal)) -> io::Result<Report> {
     let mut report = report::empty();
     for index in 1..u64::MAX {
-        let turn = take(rt, report, index)?;
-        report = turn.report;
-        if !turn.more {
-            break;
+        match take(rt, report, index)? {
+            ControlFlow::Continue(after) => report = after,
+            ControlFlow::Break(last) => return Ok(last),
         }
     }
     Ok(report)

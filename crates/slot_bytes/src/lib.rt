@@ -15,7 +15,7 @@ pub const RECORD: usize = 22;
 pub fn flag_byte(f: bool) -> u8
     ensures { result ≡ flag f }
 {
-    if f { 1 } else { 0 }
+    u8::from(f)
 }
 
 // The bytes b with those of the slot at place k in theirs.
@@ -35,16 +35,17 @@ fn put_slot(b: [u8; RECORD], r: Record, k: usize) -> [u8; RECORD]
 }
 
 // A record's bytes.
+#[tactic(auto, using(crate::proofs::Bytes::whole))]
 pub fn record_bytes(r: Record) -> [u8; RECORD]
     ensures { result ≡ record_bytes r }
 {
-    let a = put_slot([0; RECORD], r, 0);
-    let b = put_slot(a, r, 1);
-    let c = put_slot(b, r, 2);
-    let mut d = put_slot(c, r, 3);
-    d[20] = r.current;
-    d[21] = r.startable;
-    d
+    let mut b = [0; RECORD];
+    for k in 0..4 {
+        b = put_slot(b, r, k);
+    }
+    b[20] = r.current;
+    b[21] = r.startable;
+    b
 }
 
 // The slot that the five bytes from i on say.
@@ -62,15 +63,18 @@ fn slot_from(b: [u8; RECORD], i: usize) -> Slot
 }
 
 // The record that bytes say.
+#[tactic(auto, unfolding(crate::specs::Record::record_of))]
 pub fn record_of(b: [u8; RECORD]) -> Record
     ensures { result ≡ record_of b }
 {
-    let s = slot_from(b, 0);
-    let t = slot_from(b, 5);
-    let u = slot_from(b, 10);
-    let v = slot_from(b, 15);
+    // Four calls: of array::from_fn and of map, the proof of what they make did not close.
     Record {
-        slots: [s, t, u, v],
+        slots: [
+            slot_from(b, 0),
+            slot_from(b, 5),
+            slot_from(b, 10),
+            slot_from(b, 15),
+        ],
         current: b[20],
         startable: b[21],
     }
@@ -88,5 +92,5 @@ fn are_flags(b: [u8; RECORD], i: usize) -> bool
 pub fn is_record(b: [u8; RECORD]) -> bool
     ensures { result ≡ is_record b }
 {
-    are_flags(b, 0) & are_flags(b, 5) & are_flags(b, 10) & are_flags(b, 15)
+    (0..4).all(|k| are_flags(b, k * 5))
 }

@@ -3,45 +3,24 @@
 use mathlib.Core.Path.{◌≡◌, refl, sym, ap, ◌∙◌}
 use mathlib.Core.Bool.{Bool, true, false, not, cond, ◌&&◌}
 use mathlib.Core.List.{List, [], ◌∷◌}
-use Prim.Native.Nat.{ℕ, ◌<◌, ◌≤◌}
+use Prim.Native.Nat.{ℕ, ◌≤◌}
 use native.Mathlib.Omega.{arith}
 use lib.Dec.{ltb}
-use borrow.Author.Tests.{ltb-false, lt-ltb, le-ltb}
+use borrow.Author.Tests.{ltb-false}
 use Rattle.rules.specs.First.{first}
 use Rattle.rules.specs.Answer.{Answer, refused}
 use Rattle.slot_rules.specs.declared.Record.{Record}
-use Rattle.slot_rules.specs.declared.Changed.{Changed}
-use Rattle.slot_rules.specs.declared.Counted.{Counted}
-use Rattle.slot_rules.specs.declared.Outcome.TheVariants.{Starts, Recovery, Done, Refused}
 use Rattle.slot_rules.specs.declared.Op.{Op}
 use Rattle.slot_rules.specs.declared.Op.TheVariants.{SetActive, Modified, Corrupted}
 use Rattle.slot_rules.specs.Records.{valid}
-use Rattle.slot_rules.specs.Answers.{Change, beside, change_of, count_answer_of, refused_or}
+use Rattle.slot_rules.specs.Answers.{Change, beside, refused_or}
 use Rattle.slot_rules.specs.Operations.{fresh_of, startable_of}
 use Rattle.slot_rules.specs.Applied.{apply}
 use Rattle.slot_rules.proofs.Promises.{past_d}
-use Rattle.slot_bytes.specs.Record.{record_bytes, record_of, is_record}
+use Rattle.slot_bytes.specs.Record.{record_of, is_record}
 use Rattle.slot_on_bytes.specs.declared.Reply.{Reply}
 use Rattle.slot_on_bytes.specs.declared.Tally.{Tally}
 use Rattle.slot_on_bytes.specs.OnBytes.{reply_of, bytes_tests, on_bytes, fresh_bytes, bytes_refusal, tally_of, bytes_startable, clipped}
-
--- a change of a record as numbers and bytes, by its answer
-module _ (b : List ℕ) (c : Changed) {n : List ℕ} (e : n ≡ record_bytes c.after) where
-  pub says_starts : (k : ℕ) → c.answer ≡ Starts k → ◌≡◌ {A = Reply} (record { number = 0; answer = 1 ∷ k ∷ []; bytes = n }) (reply_of b (change_of c))
-  unfolding reply_of
-  says_starts k a = rw (a, e)
-
-  pub says_recovery : c.answer ≡ Recovery → ◌≡◌ {A = Reply} (record { number = 0; answer = 2 ∷ 0 ∷ []; bytes = n }) (reply_of b (change_of c))
-  unfolding reply_of
-  says_recovery a = rw (a, e)
-
-  pub says_done : c.answer ≡ Done → ◌≡◌ {A = Reply} (record { number = 0; answer = 0 ∷ 0 ∷ []; bytes = n }) (reply_of b (change_of c))
-  unfolding reply_of
-  says_done a = rw (a, e)
-
-pub says_refused : (b : List ℕ) (c : Changed) (n : ℕ) → c.answer ≡ Refused n → ◌≡◌ {A = Reply} (record { number = n; answer = 3 ∷ 0 ∷ []; bytes = b }) (reply_of b (change_of c))
-unfolding reply_of
-says_refused b c n a = rw a
 
 -- an operation on bytes that are a record, and on bytes that are none
 module _ (o : Op) (b : List ℕ) {r : Record} {c : Change} {x : Reply} (er : r ≡ record_of b) where
@@ -53,10 +32,7 @@ module _ (o : Op) (b : List ℕ) {r : Record} {c : Change} {x : Reply} (er : r �
   unfolding on_bytes
   on_none e ec ex = rw (e, ex, ec, er)
 
--- the count's answer as numbers, by its case, and from bytes that are a record and bytes that are none
-pub tallied : {c d : Counted} → c ≡ d → tally_of (count_answer_of d) ≡ tally_of (count_answer_of c)
-tallied e = ap (λ (x : Counted). tally_of (count_answer_of x)) (sym e)
-
+-- the count's answer from bytes that are a record and bytes that are none
 module _ (b : List ℕ) {x : Tally} where
   pub counted_record : {r : Record} {a : Answer ℕ} → r ≡ record_of b → is_record b ≡ true → a ≡ startable_of r → x ≡ tally_of a → x ≡ bytes_startable b
   unfolding bytes_startable
@@ -65,13 +41,6 @@ module _ (b : List ℕ) {x : Tally} where
   pub counted_none : is_record b ≡ false → x ≡ tally_of (refused 31 0) → x ≡ bytes_startable b
   unfolding bytes_startable
   counted_none e ex = rw (e, ex)
-
--- a number in a byte, where it fits and where it does not
-pub clip_fits : (n : ℕ) → n < 256 → n ≡ clipped n
-clip_fits n h = ap (λ (t : Bool). cond t n 255) (sym (lt-ltb n 256 h))
-
-pub clip_greatest : (n : ℕ) → 256 ≤ n → 255 ≡ clipped n
-clip_greatest n h = ap (λ (t : Bool). cond t n 255) (sym (le-ltb n 256 h))
 
 -- what treats all numbers from m on alike treats a number as it treats the byte
 same_clipped : {A : Type 0} (f : ℕ → A) (z : A) (m : ℕ) → m ≤ 255 → ((n : ℕ) → m ≤ n → f n ≡ z) → (n : ℕ) → f (clipped n) ≡ f n

@@ -22,11 +22,11 @@ fn is_sound(s: Slot) -> bool
 }
 
 // What the slot adds to the count of startable ones: 1 where it is in use and sound.
+#[tactic(auto, unfolding(slot_rules::specs::OneSlot::count_of))]
 pub fn count_of(s: Slot) -> u8
     ensures { result ≡ count_of s }
 {
-    let sound = is_sound(s);
-    if s.used & sound { 1 } else { 0 }
+    u8::from(s.used & is_sound(s))
 }
 
 // Whether the slot starts where it is current.
@@ -54,65 +54,59 @@ pub fn can_confirm(current: Slot) -> bool
 pub fn spend(s: Slot) -> Slot
     ensures { result ≡ spent s }
 {
-    let mut t = s;
     if s.successful {
-        return t;
+        return s;
     }
-    if 0 < s.tries {
-        t.tries = s.tries - 1;
-    }
-    t
+    let tries = s.tries.saturating_sub(1);
+    Slot { tries, ..s }
 }
 
 // The slot, marked unbootable and so no longer successful.
 pub fn mark(s: Slot) -> Slot
     ensures { result ≡ marked s }
 {
-    let mut t = s;
-    t.unbootable = true;
-    t.successful = false;
-    t
+    Slot {
+        unbootable: true,
+        successful: false, // as no valid slot is both
+        ..s
+    }
 }
 
-// The slot after it was set active.
+// The slot after it was set active: all flags clear, three tries.
 pub fn activate(s: Slot) -> Slot
     ensures { result ≡ activated s }
 {
-    let mut active = s;
-    active.unbootable = false;
-    active.successful = false;
-    active.corrupted = false;
-    active.tries = 3;
-    active
+    new_slot(s.used, 3)
 }
 
-// The slot after its partition was modified.
+// The slot after its partition was modified: as if set active, but unbootable as before.
 pub fn modify(s: Slot) -> Slot
     ensures { result ≡ modified s }
 {
-    let mut renewed = s;
-    renewed.successful = false;
-    renewed.corrupted = false;
-    renewed.tries = 3;
-    renewed
+    Slot {
+        unbootable: s.unbootable,
+        ..new_slot(s.used, 3)
+    }
 }
 
 // The slot after its system was found corrupted.
 pub fn damage(s: Slot) -> Slot
     ensures { result ≡ damaged s }
 {
-    let mut t = s;
-    t.corrupted = true;
-    t
+    Slot {
+        corrupted: true,
+        ..s
+    }
 }
 
 // The slot after it was confirmed.
 pub fn make_successful(s: Slot) -> Slot
     ensures { result ≡ confirmed s }
 {
-    let mut t = s;
-    t.successful = true;
-    t
+    Slot {
+        successful: true,
+        ..s
+    }
 }
 
 // A slot of a fresh record: its flags are clear.
@@ -120,10 +114,10 @@ pub fn new_slot(used: bool, tries: u8) -> Slot
     ensures { result ≡ new_slot used tries }
 {
     Slot {
-        used: used,
+        used,
         unbootable: false,
         successful: false,
         corrupted: false,
-        tries: tries,
+        tries,
     }
 }

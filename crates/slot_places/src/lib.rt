@@ -8,48 +8,43 @@ ghost use Rattle.slot_rules.specs.Answers.{count_answer_of};
 ghost use Rattle.slot_rules.specs.Operations.{startable_of};
 
 use slot_one::{count_of, is_slot_valid, new_slot};
-use slot_rules::{Counted, Record, Slot};
+use slot_rules::{Record, Refusal, Slot};
 
 // The slot at a place; past d, one that is not used.
 pub fn slot_at(r: Record, place: u8) -> Slot
     ensures { result ≡ slot_at r place }
 {
-    if place < 4 {
-        let i = place as usize;
-        return r.slots[i];
+    match r.slots.get(usize::from(place)) {
+        Some(s) => *s,
+        None => new_slot(false, 0),
     }
-    new_slot(false, 0)
 }
 
 // Whether each of the four slots is valid.
+#[tactic(auto, unfolding(slot_rules::specs::Records::slots_valid))]
 fn are_slots_valid(r: Record) -> bool
     ensures { result ≡ slots_valid r }
 {
-    is_slot_valid(slot_at(r, 0))
-        & is_slot_valid(slot_at(r, 1))
-        & is_slot_valid(slot_at(r, 2))
-        & is_slot_valid(slot_at(r, 3))
+    r.slots.iter().all(|s| is_slot_valid(*s))
 }
 
 // How many of the four slots are startable, by their flags.
+#[tactic(auto, unfolding(slot_rules::specs::Records::startable_in))]
 fn startable_in(r: Record) -> u8
     ensures { result ≡ startable_in r }
 {
-    count_of(slot_at(r, 0))
-        + count_of(slot_at(r, 1))
-        + count_of(slot_at(r, 2))
-        + count_of(slot_at(r, 3))
+    r.slots.iter().map(|s| count_of(*s)).sum()
 }
 
 // Whether the place is not past d and in use.
 pub fn is_in_use(r: Record, place: u8) -> bool
     ensures { result ≡ is_in_use r place }
 {
-    let s = slot_at(r, place);
-    (place < 4) & s.used
+    (place < 4) & slot_at(r, place).used
 }
 
 // Whether the record is valid.
+#[tactic(auto, unfolding(slot_rules::specs::Records::valid))]
 pub fn is_valid(r: Record) -> bool
     ensures { result ≡ valid r }
 {
@@ -57,13 +52,15 @@ pub fn is_valid(r: Record) -> bool
 }
 
 // How many slots are startable, as the record keeps it; 31 where it is invalid.
-pub fn startable_slots(r: Record) -> Counted
+#[tactic(auto, using(slot_rules::proofs::Laws::count_told, slot_rules::proofs::Laws::count_invalid))]
+pub fn startable_slots(r: Record) -> Result<u8, Refusal>
     ensures { count_answer_of result ≡ startable_of r }
 {
     if is_valid(r) {
-        return Counted::Slots(r.startable);
+        Ok(r.startable)
+    } else {
+        Err(Refusal::Invalid)
     }
-    Counted::Refused(31)
 }
 
 // The record for n slots, 0 to 4: the first n in use and so startable, a current, flags clear, and these
@@ -71,12 +68,8 @@ pub fn startable_slots(r: Record) -> Counted
 pub fn new_record(n: u8, tries: u8) -> Record
     ensures { result ≡ new_record n tries }
 {
-    let a = new_slot(0 < n, tries);
-    let b = new_slot(1 < n, tries);
-    let c = new_slot(2 < n, tries);
-    let d = new_slot(3 < n, tries);
     Record {
-        slots: [a, b, c, d],
+        slots: std::array::from_fn(|k| new_slot(k < usize::from(n), tries)),
         current: 0,
         startable: n,
     }

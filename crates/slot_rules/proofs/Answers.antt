@@ -1,50 +1,73 @@
--- An answer tells the cases of the enum apart, so the contracts, which speak of the answer, determine the enum too; and its deeds differ.
+-- An answer tells the results apart, so the contracts, which speak of the answer, determine the result too; and its deeds differ.
 -- Assumes nothing.
 use mathlib.Core.Path.{◌≡◌, refl, sym, ap, ◌∙◌}
-use mathlib.Core.Bool.{true, false}
+use mathlib.Core.Bool.{true, false, cond}
 use Prim.Native.Nat.{ℕ, zero, suc, ◌<◌}
 use native.Mathlib.Omega.{arith}
+use lib.Dec.{eqb}
+use Rattle.std.specs.Prelude.{Result, Ok, Err}
 use borrow.Author.Tests.{eqb-true}
 use Rattle.rules.specs.Answer.{Answer, accepted, refused, number_of}
 use Rattle.slot_rules.specs.declared.Record.{Record}
 use Rattle.slot_rules.specs.declared.Op.{Op}
 use Rattle.slot_rules.specs.declared.Op.TheVariants.{Start, SetActive, Modified, Corrupted, Confirm}
 use Rattle.slot_rules.specs.declared.Outcome.{Outcome}
-use Rattle.slot_rules.specs.declared.Outcome.TheVariants.{Starts, Recovery, Done, Refused}
-use Rattle.slot_rules.specs.declared.Counted.{Counted}
-use Rattle.slot_rules.specs.declared.Counted.TheVariants as counted
-use Rattle.slot_rules.specs.Answers.{Deed, starts, recovery, done, answer_of, count_answer_of, change, refused_or}
+use Rattle.slot_rules.specs.declared.Outcome.TheVariants.{Starts, Recovery, Done}
+use Rattle.slot_rules.specs.declared.Refusal.{Refusal}
+use Rattle.slot_rules.specs.declared.Refusal.TheVariants.{Invalid, NotInUse, Unsound}
+use Rattle.slot_rules.specs.Answers.{Deed, starts, recovery, done, deed_of, number, answer_of, count_answer_of, change, refused_or}
 use Rattle.slot_rules.specs.Promises.{starts_slot, renews, confirms}
 use Rattle.slot_rules.proofs.Tests.{clash}
 
--- the case that says an answer
-abbrev case : Answer Deed → Outcome
-case (accepted (starts k)) = Starts k
-case (accepted recovery) = Recovery
-case (accepted done) = Done
-case (refused n p) = Refused n
+-- the case that says a deed, and the refusal that has a number
+abbrev case : Deed → Outcome
+case (starts k) = Starts k
+case recovery = Recovery
+case done = Done
 
-case_answer : (a : Outcome) → case (answer_of a) ≡ a
-case_answer (Starts k) = refl
-case_answer Recovery = refl
-case_answer Done = refl
-case_answer (Refused n) = refl
+case_deed : (o : Outcome) → case (deed_of o) ≡ o
+case_deed (Starts k) = refl
+case_deed Recovery = refl
+case_deed Done = refl
 
--- two cases that say the same are the same
-pub answer_one : (a b : Outcome) → answer_of a ≡ answer_of b → a ≡ b
-answer_one a b e = sym (case_answer a) ∙ ap case e ∙ case_answer b
+abbrev refusal : ℕ → Refusal
+refusal n = cond (eqb n 31) Invalid (cond (eqb n 32) NotInUse Unsound)
+
+refusal_number : (e : Refusal) → refusal (number e) ≡ e
+refusal_number Invalid = refl
+refusal_number NotInUse = refl
+refusal_number Unsound = refl
+
+-- a refusal's number is not 0
+pub number_some : (e : Refusal) → 0 < number e
+number_some Invalid = omega arith
+number_some NotInUse = omega arith
+number_some Unsound = omega arith
+
+-- the result that says an answer
+abbrev result : Answer Deed → Result Outcome Refusal
+result (accepted d) = Ok (case d)
+result (refused n p) = Err (refusal n)
+
+result_answer : (a : Result Outcome Refusal) → result (answer_of a) ≡ a
+result_answer (Ok o) = ap Ok (case_deed o)
+result_answer (Err e) = ap Err (refusal_number e)
+
+-- two results that say the same are the same
+pub answer_one : (a b : Result Outcome Refusal) → answer_of a ≡ answer_of b → a ≡ b
+answer_one a b e = sym (result_answer a) ∙ ap result e ∙ result_answer b
 
 -- and so of the count's answer
-abbrev count_case : Answer ℕ → Counted
-count_case (accepted n) = counted.Slots n
-count_case (refused n p) = counted.Refused n
+abbrev count_result : Answer ℕ → Result ℕ Refusal
+count_result (accepted n) = Ok n
+count_result (refused n p) = Err (refusal n)
 
-count_case_answer : (a : Counted) → count_case (count_answer_of a) ≡ a
-count_case_answer (counted.Slots n) = refl
-count_case_answer (counted.Refused n) = refl
+count_result_answer : (a : Result ℕ Refusal) → count_result (count_answer_of a) ≡ a
+count_result_answer (Ok n) = refl
+count_result_answer (Err e) = ap Err (refusal_number e)
 
-pub count_answer_one : (a b : Counted) → count_answer_of a ≡ count_answer_of b → a ≡ b
-count_answer_one a b e = sym (count_case_answer a) ∙ ap count_case e ∙ count_case_answer b
+pub count_answer_one : (a b : Result ℕ Refusal) → count_answer_of a ≡ count_answer_of b → a ≡ b
+count_answer_one a b e = sym (count_result_answer a) ∙ ap count_result e ∙ count_result_answer b
 
 -- the slot that an answer starts, counted from 1, or 0
 abbrev started : Answer Deed → ℕ

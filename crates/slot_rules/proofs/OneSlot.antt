@@ -10,15 +10,10 @@ use Rattle.slot_rules.specs.declared.Slot.{Slot}
 use Rattle.slot_rules.specs.OneSlot.{slot_valid, sound, count_of, may_start, may_take_over, may_confirm, with_tries, spent, marked, damaged, confirmed}
 use Rattle.slot_rules.proofs.Tests.{and_left, and_right, and_false, clash, by_cond}
 
--- what a slot counts, by its tests
-pub counts : (s : Slot) {b : Bool} (x : Bool) → b ≡ sound s → (s.used && b) ≡ x → cond x 1 0 ≡ count_of s
-unfolding count_of
-counts s x p e = ap (λ (t : Bool). cond t 1 0) (sym e ∙ ap (◌&&◌ s.used) p)
-
 -- a slot counts once at most
-pub count_most : (s : Slot) {n : ℕ} → n ≡ count_of s → n ≤ 1
+pub count_most : (s : Slot) → count_of s ≤ 1
 unfolding count_of
-count_most s e = omega (arith, e, go (s.used && sound s)) where
+count_most s = go (s.used && sound s) where
   go : (b : Bool) → cond b 1 0 ≤ 1
   go true = omega arith
   go false = omega arith
@@ -122,7 +117,3 @@ spent_same s f e = by_cond s.successful (λ (t : Slot). f t ≡ f s) (λ _. refl
 -- a successful slot starts as it is
 pub spent_none : (s : Slot) → s.successful ≡ true → spent s ≡ s
 spent_none s e = by_cond s.successful (λ (t : Slot). t ≡ s) (λ _. refl) (λ u. clash e u)
-
--- a slot with no try left loses none
-pub no_try : (s : Slot) → s.successful ≡ false → s.tries ≤ 0 → s ≡ spent s
-no_try s e h = by_cond s.successful (λ (t : Slot). s ≡ t) (λ _. refl) (λ _. ap (with_tries s) (omega (arith, h)))

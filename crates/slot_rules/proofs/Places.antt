@@ -1,12 +1,12 @@
 -- The places of a record, one entry of it replaced.
 -- Assumes nothing.
-use mathlib.Core.Path.{◌≡◌, refl, sym, ap, subst, ◌∙◌}
+use mathlib.Core.Path.{◌≡◌, refl, sym, ap, subst}
 use mathlib.Core.Bool.{Bool, true, false, ◌&&◌}
 use mathlib.Core.List.{List, [], ◌∷◌}
-use Prim.Native.Nat.{ℕ, zero, suc, ◌+◌, ◌-◌, ◌<◌, ◌≤◌, suc-le-suc, zero-le}
+use Prim.Native.Nat.{ℕ, zero, suc, ◌+◌, ◌<◌, ◌≤◌, suc-le-suc, zero-le}
 use native.Mathlib.Omega.{arith}
 use lib.Dec.{eqb, ltb}
-use lib.ListN.{length, get_or, set}
+use lib.ListN.{length, get_or}
 use lib.Seq.{get_or-set_same, get_or-set_other}
 use borrow.Author.Tests.{eqb-true, eqb-false}
 use Rattle.slot_rules.specs.declared.Slot.{Slot}
@@ -102,10 +102,7 @@ module _ (r : Record) (i : ℕ) (u : is_in_use r i ≡ true) where
 module _ (r : Record) (v : valid r ≡ true) where
   pub count_few : r.startable ≤ 4
   unfolding startable_in
-  count_few = omega (arith, valid_count r v, count_most (slot_at r 0) refl, count_most (slot_at r 1) refl, count_most (slot_at r 2) refl, count_most (slot_at r 3) refl)
+  count_few = omega (arith, valid_count r v, count_most)
 
-  pub count_held : (i : ℕ) → is_in_use r i ≡ true → {s : Slot} {n : ℕ} → s ≡ slot_at r i → n ≡ count_of s → n ≤ r.startable
-  count_held i u p e = omega (arith, valid_count r v, counted_in r i u, e ∙ ap count_of p)
-
-pub replaced_by : (r : Record) (i : ℕ) (t : Slot) {s : Slot} {a b : ℕ} → s ≡ slot_at r i → a ≡ count_of t → b ≡ count_of s → ◌≡◌ {A = Record} (record { slots = set r.slots i t; current = r.current; startable = r.startable + a - b }) (replaced r i t)
-replaced_by r i t p ea eb = rw (ea, eb, p)
+  pub count_held : (i : ℕ) → is_in_use r i ≡ true → count_of (slot_at r i) ≤ r.startable
+  count_held i u = omega (arith, valid_count r v, counted_in r i u)

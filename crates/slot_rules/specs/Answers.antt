@@ -1,13 +1,13 @@
--- What an operation hands back, in the words and numbers of the rules, and what the code's enum says of it.
+-- What an operation hands back, in the words and numbers of the rules, and what the code's result says of it.
 -- Assumes nothing.
-use Rattle.std.specs.Prelude.{ℕ, zero, suc}
+use Rattle.std.specs.Prelude.{ℕ, zero, suc, Result, Ok, Err}
 use Rattle.rules.specs.Answer.{Answer, accepted, refused}
 use Rattle.slot_rules.specs.declared.Record.{Record}
 use Rattle.slot_rules.specs.declared.Changed.{Changed}
 use Rattle.slot_rules.specs.declared.Outcome.{Outcome}
-use Rattle.slot_rules.specs.declared.Outcome.TheVariants.{Starts, Recovery, Done, Refused}
-use Rattle.slot_rules.specs.declared.Counted.{Counted}
-use Rattle.slot_rules.specs.declared.Counted.TheVariants as counted
+use Rattle.slot_rules.specs.declared.Outcome.TheVariants.{Starts, Recovery, Done}
+use Rattle.slot_rules.specs.declared.Refusal.{Refusal}
+use Rattle.slot_rules.specs.declared.Refusal.TheVariants.{Invalid, NotInUse, Unsound}
 
 -- what an operation that is not refused does: a slot starts, Recovery, or a change is made
 pub data Deed : Type 0 where
@@ -20,19 +20,29 @@ pub record Change : Type 0 where
   pub answer : Answer Deed
   pub after : Record
 
--- what each case of the enum says: "All other refusals carry 0", so the place of each is 0
-abbrev pub answer_of : Outcome → Answer Deed
-answer_of (Starts k) = accepted (starts k)
-answer_of Recovery = accepted recovery
-answer_of Done = accepted done
-answer_of (Refused n) = refused n 0
+-- what each case of the enum says: a slot starts, Recovery, or a change is made
+abbrev pub deed_of : Outcome → Deed
+deed_of (Starts k) = starts k
+deed_of Recovery = recovery
+deed_of Done = done
 
--- what each case of the count's answer says
-abbrev pub count_answer_of : Counted → Answer ℕ
-count_answer_of (counted.Slots n) = accepted n
-count_answer_of (counted.Refused n) = refused n 0
+-- the number of each refusal
+abbrev pub number : Refusal → ℕ
+number Invalid = 31
+number NotInUse = 32
+number Unsound = 33
 
--- what the result of an operation says
+-- what an operation's result says: "All other refusals carry 0", so the place of each is 0
+abbrev pub answer_of : Result Outcome Refusal → Answer Deed
+answer_of (Ok o) = accepted (deed_of o)
+answer_of (Err e) = refused (number e) 0
+
+-- what the result of the count's reader says
+abbrev pub count_answer_of : Result ℕ Refusal → Answer ℕ
+count_answer_of (Ok n) = accepted n
+count_answer_of (Err e) = refused (number e) 0
+
+-- what a result beside a record says
 abbrev pub change_of : Changed → Change
 change_of c = record { answer = answer_of c.answer; after = c.after }
 

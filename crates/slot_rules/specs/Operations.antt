@@ -1,6 +1,6 @@
 -- The operations: the tests of each in their order, with the numbers of their refusals, and then its effect.
 -- Assumes nothing.
-use Rattle.std.specs.Prelude.{Bool, not, cond, ◌&&◌, List, [], ◌∷◌, ℕ, zero, suc, ◌+◌, ltb, leb, eqb}
+use Rattle.std.specs.Prelude.{Bool, not, cond, ◌&&◌, List, [], ◌∷◌, ℕ, zero, suc, ◌+◌, ltb, leb, eqb, Option, Some, None}
 use Rattle.rules.specs.First.{first}
 use Rattle.rules.specs.Answer.{Answer, accepted, unless}
 use Rattle.slot_rules.specs.declared.Slot.{Slot}
@@ -33,6 +33,10 @@ first_from r (suc n) k = cond (takes_over r k) k (first_from r n (k + 1))
 -- "the first other slot in letter order": the search begins at a
 abbrev pub first_other : Record → ℕ
 first_other r = first_from r 4 0
+
+-- what the code's search hands back: the place that was found, or none
+abbrev pub found : ℕ → Option ℕ
+found k = cond (ltb k 4) (Some k) None
 
 -- the slot k "becomes current and starts", which is successful and so loses no try; "If none is, the answer is Recovery, and the mark stays"
 abbrev pub take_over : Record → ℕ → Change

@@ -2,31 +2,19 @@
 // and none is made.
 #![tactic(auto)]
 
-ghost use Rattle.std.specs.Prelude.{◌≡◌, ◌+◌, min};
+ghost use Rattle.std.specs.Prelude.{◌≡◌};
 ghost use Rattle.sparse_rules.specs.Counts.{writes};
 ghost use Rattle.sparse_blocks_rules.specs.Blocks.{pace};
 ghost use Rattle.sparse_blocks_rules.specs.Reading.{nothing, less, passed_by, opened};
 
 use sparse_blocks_rules::Reader;
-use sparse_rules::{Chunk, ChunkRead, Cursor, Kind};
+use sparse_rules::{Chunk, Cursor, Kind};
 
 // Whether the blocks of a kind of chunk are written.
 pub fn writes(kind: Kind) -> bool
     ensures { result ≡ writes kind }
 {
-    match kind {
-        Kind::Raw => true,
-        Kind::Fill => true,
-        Kind::DontCare => false,
-        Kind::Unknown => false,
-    }
-}
-
-// The lesser of two counts of blocks.
-pub fn least(m: u32, n: u32) -> u32
-    ensures { result ≡ min m n }
-{
-    if m <= n { m } else { n }
+    matches!(kind, Kind::Raw | Kind::Fill)
 }
 
 // How many bytes on the data of a chunk's next block stand.
@@ -35,20 +23,8 @@ fn pace(block: u32, kind: Kind) -> u32
 {
     match kind {
         Kind::Raw => block,
-        Kind::Fill => 0,
-        Kind::DontCare => 0,
-        Kind::Unknown => 0,
+        Kind::Fill | Kind::DontCare | Kind::Unknown => 0,
     }
-}
-
-// The place so many bytes on, and at most the end.
-fn on(len: usize, at: usize, bytes: usize) -> usize
-    ensures { result ≡ min (at + bytes) len }
-{
-    if len < at {
-        return len;
-    }
-    if len - at < bytes { len } else { at + bytes }
 }
 
 // A chunk without blocks.
@@ -68,12 +44,8 @@ fn less(len: usize, block: u32, chunk: Chunk, n: u32) -> Chunk
 {
     let kind = chunk.kind;
     let bytes = n as usize * pace(block, kind) as usize;
-    let body = on(len, chunk.body, bytes);
-    let blocks = if chunk.blocks < n {
-        0
-    } else {
-        chunk.blocks - n
-    };
+    let body = chunk.body.saturating_add(bytes).min(len);
+    let blocks = chunk.blocks.saturating_sub(n);
     Chunk { kind, blocks, body }
 }
 
@@ -86,9 +58,9 @@ pub fn pass(image: &[u8], reader: Reader, n: u32) -> Reader
     let mut left = reader.left;
     let mut chunk = reader.chunk;
     let mut over = n;
+    // Kept by hand: the loop ends before the last chunk where blocks are left, and the reader keeps how many chunks come.
     while (chunk.blocks <= over) & (0 < left) {
-        let r = sparse_read::read_chunk(image, header, cursor);
-        let ChunkRead::Chunk(k, next) = r else {
+        let Ok((k, next)) = sparse_read::read_chunk(image, header, cursor) else {
             return Reader {
                 header,
                 cursor,
@@ -124,4 +96,37 @@ pub fn open(image: &[u8]) -> Reader
         chunk: nothing(),
     };
     pass(image, start, 0)
+}
+
+// Two images side by side: their bytes, and where each is read.
+#[derive(Clone, Copy)]
+pub struct Pair<'a> {
+    pub first: &'a [u8],
+    pub second: &'a [u8],
+    pub a: Reader,
+    pub b: Reader,
+}
+
+impl<'a> Pair<'a> {
+    // At the first block of each.
+    pub fn open(first: &'a [u8], second: &'a [u8]) -> Pair<'a>
+        ensures images { (result.first.now ≡ first.now) × (result.second.now ≡ second.now) }
+        ensures readers { (result.a ≡ opened first.now) × (result.b ≡ opened second.now) }
+    {
+        Pair {
+            first,
+            second,
+            a: open(first),
+            b: open(second),
+        }
+    }
+
+    // Past n blocks of each.
+    pub fn pass(&mut self, n: u32)
+        ensures images { (self.new.first.now ≡ self.old.first.now) × (self.new.second.now ≡ self.old.second.now) }
+        ensures readers { (self.new.a ≡ passed_by self.old.first.now self.old.a n) × (self.new.b ≡ passed_by self.old.second.now self.old.b n) }
+    {
+        self.a = pass(self.first, self.a, n);
+        self.b = pass(self.second, self.b, n);
+    }
 }

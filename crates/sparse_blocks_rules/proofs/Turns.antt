@@ -1,16 +1,16 @@
--- The turns of the loops: a reader passed on chunk by chunk, and bytes compared one after the other.
+-- The turns of the loops: a reader passed on chunk by chunk, and bytes compared.
 -- Assumes nothing.
-use mathlib.Core.Path.{◌≡◌, refl, sym, ap₂, ◌∙◌}
-use mathlib.Core.Bool.{Bool, true, false, ◌&&◌, and_assoc, and-true}
+use mathlib.Core.Path.{◌≡◌, refl, sym, ap}
+use mathlib.Core.Bool.{Bool, true, false, ◌&&◌}
 use mathlib.Core.List.{List, [], ◌∷◌}
 use Prim.Native.Nat.{ℕ, zero, suc, ◌+◌, ◌-◌, ◌*◌, min, ◌≤◌, ◌<◌}
 use native.Mathlib.Nat.{not-suc-le-zero}
-use native.Mathlib.Numerals.{sub-one, add-one}
+use native.Mathlib.Numerals.{sub-one}
 use native.Mathlib.Omega.{arith}
 use borrow.Author.Tests.{leb-true, leb-false, ltb-true, ltb-false, lt-ltb, le-ltb}
 use lib.Dec.{leb, ltb, eqb}
-use lib.ListN.{length, get_or, take, drop, drop_of_length-le}
-use lib.Seq.{drop-cons}
+use lib.ListN.{length, take, drop}
+use lib.Pointwise.{pointwise}
 use Rattle.rules.specs.Answer.{refused}
 use Rattle.rules.proofs.Tests.{both, and_rest}
 use Rattle.sparse_rules.specs.declared.Header.{Header}
@@ -57,34 +57,13 @@ module _ (s : List ℕ) (h : Header) where
 
 -- ---- bytes
 
--- what is still to be compared decides, where all before it are the same
-pub record Comparing (xs ys : List ℕ) (same : Bool) (i : ℕ) : Type 0 where
-  pub inside : i ≤ length xs
-  pub goes : (same && alike (drop i xs) (drop i ys)) ≡ alike xs ys
-
-module _ {xs ys : List ℕ} where
-  -- one more
-  pub compare_on : {same : Bool} {i : ℕ} → length ys ≡ length xs → i < length xs → Comparing xs ys same i
-      → Comparing xs ys (same && eqb (get_or xs i 0) (get_or ys i 0)) (i + 1)
-  unfolding alike
-  compare_on {same} {i} l h w =
-      let p : drop i xs ≡ get_or xs i 0 ∷ drop (suc i) xs = drop-cons xs i 0 h in
-      let q : drop i ys ≡ get_or ys i 0 ∷ drop (suc i) ys = drop-cons ys i 0 (omega arith) in
-      record {
-        inside = omega arith;
-        goes =
-            rw add-one
-            (and_assoc same (eqb (get_or xs i 0) (get_or ys i 0)) (alike (drop (suc i) xs) (drop (suc i) ys))
-            ∙ sym (ap₂ (λ (u v : List ℕ). same && alike u v) p q) ∙ w.goes);
-      }
-
-  -- all are compared
-  pub compare_done : {same : Bool} {i : ℕ} → length ys ≡ length xs → length xs ≤ i → Comparing xs ys same i → same ≡ alike xs ys
-  unfolding alike
-  compare_done {same} {i} l h w =
-      let p : drop i xs ≡ [] = drop_of_length-le xs h in
-      let q : drop i ys ≡ [] = drop_of_length-le ys {i = i} (omega arith) in
-      sym (and-true same) ∙ sym (ap₂ (λ (u v : List ℕ). same && alike u v) p q) ∙ w.goes
+-- slices' equality finds the same
+pub equal_alike : (xs ys : List ℕ) → pointwise eqb xs ys ≡ alike xs ys
+unfolding alike
+equal_alike [] [] = refl
+equal_alike [] (y ∷ ys) = refl
+equal_alike (x ∷ xs) [] = refl
+equal_alike (x ∷ xs) (y ∷ ys) = ap (λ (z : Bool). eqb x y && z) (equal_alike xs ys)
 
 -- n bytes from a place on, as they are handed on
 pub part_is : (s : List ℕ) (i n : ℕ) → i + n ≤ length s → take (i + n - i) (drop i s) ≡ tab (raw_byte s i) 0 n

@@ -1,14 +1,14 @@
 -- Two images: their blocks side by side, and what is answered about both.
 -- Assumes nothing.
-use Rattle.std.specs.Prelude.{◌≡◌, Bool, not, ◌&&◌, List, [], ◌∷◌, ◌++◌, ℕ, eqb, length, drop}
+use Rattle.std.specs.Prelude.{◌≡◌, Bool, not, ◌&&◌, List, [], ◌∷◌, ◌++◌, ℕ, eqb, length, drop, Result, Ok, Err}
 use Rattle.rules.specs.First.{first}
 use Rattle.rules.specs.Answer.{Answer, accepted, refused, unless, onward}
 use Rattle.sparse_rules.specs.declared.Chunk.{Chunk}
 use Rattle.sparse_rules.specs.Header.{block_size, total_blocks}
 use Rattle.sparse_rules.specs.Walk.{Finding}
 use Rattle.sparse_write_rules.specs.Blocks.{Block}
-use Rattle.sparse_blocks_rules.specs.declared.Paired.{Paired}
-use Rattle.sparse_blocks_rules.specs.declared.Paired.TheVariants as paired
+use Rattle.sparse_blocks_rules.specs.declared.PairRefusal.{PairRefusal}
+use Rattle.sparse_blocks_rules.specs.declared.PairRefusal.TheVariants.{First, Second, Geometry, Space}
 use Rattle.sparse_blocks_rules.specs.Blocks.{found}
 
 -- what a rule gives for each pair of blocks, in order
@@ -40,15 +40,41 @@ image_by (accepted ks) (accepted ls) = 0
 unfoldable pub refused_image : List ℕ → List ℕ → ℕ
 refused_image s t = image_by (found s) (found t)
 
--- the code's answer: a number, or the refusal's number and place
-abbrev pub answer_of : Paired → Answer ℕ
-answer_of (paired.Done n) = accepted n
-answer_of (paired.Refused i f) = refused f.number f.place
+-- the number of a refusal of two images
+abbrev pub refusal_number : PairRefusal → ℕ
+refusal_number (First f) = f.number
+refusal_number (Second f) = f.number
+refusal_number Geometry = 17
+refusal_number Space = 18
 
--- and the image that its refusal is of
-abbrev pub image_of : Paired → ℕ
-image_of (paired.Done n) = 0
-image_of (paired.Refused i f) = i
+-- its place, 0 where it is of both
+abbrev pub refusal_place : PairRefusal → ℕ
+refusal_place (First f) = f.place
+refusal_place (Second f) = f.place
+refusal_place Geometry = 0
+refusal_place Space = 0
+
+-- the image that it is of, 0 where it is of both
+abbrev pub refusal_image : PairRefusal → ℕ
+refusal_image (First f) = 1
+refusal_image (Second f) = 2
+refusal_image Geometry = 0
+refusal_image Space = 0
+
+-- the code's answer: a number, or the refusal's number and place
+abbrev pub answer_of : Result ℕ PairRefusal → Answer ℕ
+answer_of (Ok n) = accepted n
+answer_of (Err e) = refused (refusal_number e) (refusal_place e)
+
+-- the tests of both alone: the number 0 where all pass
+abbrev pub tests_of : Result (Unit {0}) PairRefusal → Answer ℕ
+tests_of (Ok u) = accepted 0
+tests_of (Err e) = refused (refusal_number e) (refusal_place e)
+
+-- and the image that a refusal is of, 0 where there is none
+abbrev pub image_of : {A : Type 0} → Result A PairRefusal → ℕ
+image_of (Ok x) = 0
+image_of (Err e) = refusal_image e
 
 -- what an answer leaves in lent space: what is put stands at its start and "nothing past" it "is touched"; a refusal stores nothing
 abbrev pub left_by : Answer ℕ → List ℕ → List ℕ → List ℕ

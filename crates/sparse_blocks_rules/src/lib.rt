@@ -1,5 +1,5 @@
 // The blocks of sparse images and what two images are together, as definitions and theorems, with the types that the code
-// over them shares. No code.
+// over them shares. No code but what is derived.
 #![tactic(auto)]
 
 use sparse_rules::{Chunk, Cursor, Header, Refusal};
@@ -14,10 +14,22 @@ pub struct Reader {
     pub chunk: Chunk,
 }
 
-// What is answered about two images: a number, or a refusal and which image it is of: 1 the first, 2 the second, 0 both
-// together.
+// So many blocks of one kind, by whatever rule.
 #[derive(Clone, Copy)]
-pub enum Paired {
-    Done(usize),
-    Refused(u32, Refusal),
+pub struct Piece<K> {
+    pub kind: K,
+    pub blocks: u32,
 }
+
+// Why two images are not taken together: a refusal of the first, one of the second, or one of both: their geometry differs
+// or is too large, or what is lent has too little room.
+#[derive(Clone, Copy)]
+pub enum PairRefusal {
+    First(Refusal),
+    Second(Refusal),
+    Geometry,
+    Space,
+}
+
+// What is answered about two images: a number, or a refusal.
+pub type Paired = Result<usize, PairRefusal>;

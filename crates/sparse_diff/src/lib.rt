@@ -13,10 +13,9 @@ ghost use Rattle.sparse_diff_rules.specs.Laid.{laid};
 
 use front::front;
 use growing::{grow, put_run};
-use sparse_blocks::{open, pass};
-use sparse_blocks_rules::Paired;
-use sparse_diff_rules::Growing;
-use sparse_rules::Refusal;
+use sparse_blocks::Pair;
+use sparse_blocks_rules::{PairRefusal, Paired};
+use sparse_diff_rules::{Change, Growing};
 
 // Lists the runs of two images that match, and answers how many there are. Those that have no room are counted and not put.
 fn list(first: &[u8], second: &[u8], space: &mut [u32]) -> usize
@@ -24,19 +23,18 @@ fn list(first: &[u8], second: &[u8], space: &mut [u32]) -> usize
     ensures answer { result ≡ length (diff first.now second.now) }
     ensures contents { space.new ≡ laid space.old 0 0 (diff first.now second.now) }
 {
-    let mut a = open(first);
-    let mut b = open(second);
+    let mut pair = Pair::open(first, second);
     let mut growing = Growing {
         runs: 0,
         first: 0,
         blocks: 0,
-        kind: 0,
+        kind: Change::Neither,
     };
-    while 0 < a.chunk.blocks {
-        let f = front(first, second, a, b);
+    // Kept by hand: an iterator over what is in front would hold this pair, and its `next` would be this body.
+    while 0 < pair.a.chunk.blocks {
+        let f = front(pair);
         growing = grow(space, growing, f);
-        a = pass(first, a, f.blocks);
-        b = pass(second, b, f.blocks);
+        pair.pass(f.blocks);
     }
     put_run(space, growing)
 }
@@ -62,18 +60,9 @@ pub fn compare(first: &[u8], second: &[u8], space: &mut [u32]) -> Paired
     ensures image { image_of result ≡ refused_image first.now second.now }
     ensures contents { space.new ≡ listed first.now second.now space.old }
 {
-    let found = sparse_match::matched(first, second);
-    let Paired::Done(_) = found else {
-        return found;
-    };
+    sparse_match::matched(first, second)?;
     if fits(first, second, space.len()) {
-        return Paired::Done(list(first, second, space));
+        return Ok(list(first, second, space));
     }
-    Paired::Refused(
-        0,
-        Refusal {
-            number: 18,
-            place: 0,
-        },
-    )
+    Err(PairRefusal::Space)
 }

@@ -18,8 +18,10 @@ use Rattle.sparse_blocks_rules.specs.Pairs.{each, Matched}
 use Rattle.sparse_blocks_rules.proofs.Passing.{opens}
 use Rattle.sparse_blocks_rules.proofs.Giving.{gives}
 use Rattle.sparse_blocks_rules.proofs.SideBySide.{takes, none_left, length_each, opens_beside, opens_all}
+use Rattle.sparse_diff_rules.specs.declared.Change.{Change}
+use Rattle.sparse_diff_rules.specs.declared.Change.TheVariants.{Neither, OnlyFirst, OnlySecond, Equal, Different}
 use Rattle.sparse_diff_rules.specs.declared.Growing.{Growing}
-use Rattle.sparse_diff_rules.specs.Diff.{change, changes, diff, run_numbers}
+use Rattle.sparse_diff_rules.specs.Diff.{change, kind_number, changes, diff, run_numbers}
 use Rattle.sparse_diff_rules.specs.Laid.{laid, runs_with, space_with, count_with, Grown}
 
 -- ---- a run is put
@@ -52,16 +54,35 @@ counted_closed kind (suc blocks) = omega arith
 
 -- ---- the list grows
 
+-- the kind that a number names
+abbrev named : ℕ → Change
+named zero = Neither
+named (suc zero) = OnlyFirst
+named (suc (suc zero)) = OnlySecond
+named (suc (suc (suc zero))) = Equal
+named (suc (suc (suc (suc n)))) = Different
+
+named_is : (k : Change) → named (kind_number k) ≡ k
+named_is Neither = refl
+named_is OnlyFirst = refl
+named_is OnlySecond = refl
+named_is Equal = refl
+named_is Different = refl
+
+-- kinds of one number are one kind
+number_tells : (k l : Change) → kind_number k ≡ kind_number l → k ≡ l
+number_tells k l e = sym (named_is k) ∙ ap named e ∙ named_is l
+
 module _ (space : List ℕ) (g : Growing) where
-  same_runs : (n : ℕ) (rest : List ℕ) → runs_with g (replicate n g.kind ++ rest) ≡ runs eqb (replicate (g.blocks + n) g.kind ++ rest)
+  same_runs : (n : ℕ) (rest : List ℕ) → runs_with g (replicate n (kind_number g.kind) ++ rest) ≡ runs eqb (replicate (g.blocks + n) (kind_number g.kind) ++ rest)
   same_runs n rest =
       ap (runs eqb)
-      (sym (append_assoc (replicate g.blocks g.kind) (replicate n g.kind) rest)
-      ∙ ap (λ (r : List ℕ). r ++ rest) (replicate-append-replicate g.blocks n g.kind))
+      (sym (append_assoc (replicate g.blocks (kind_number g.kind)) (replicate n (kind_number g.kind)) rest)
+      ∙ ap (λ (r : List ℕ). r ++ rest) (replicate-append-replicate g.blocks n (kind_number g.kind)))
 
   -- of the same kind: the run grows
-  pub grows_same : (kind n : ℕ) → kind ≡ g.kind
-      → Grown space g kind n space (record { runs = g.runs; first = g.first; blocks = g.blocks + n; kind = g.kind })
+  pub grows_same : (kind : Change) (n : ℕ) → kind ≡ g.kind
+      → Grown space g (kind_number kind) n space (record { runs = g.runs; first = g.first; blocks = g.blocks + n; kind = g.kind })
   grows_same kind n e =
       rw e
       record {
@@ -71,20 +92,20 @@ module _ (space : List ℕ) (g : Growing) where
       }
 
   -- of another: it is put, and they begin the next
-  pub grows_other : (kind n : ℕ) → 0 < n → (kind ≡ g.kind → ⊥) → {space' : List ℕ} {runs' : ℕ}
-      → (space' ≡ laid space g.runs g.first (closed g.kind g.blocks)) → (runs' ≡ g.runs + length (closed g.kind g.blocks))
-      → Grown space g kind n space' (record { runs = runs'; first = g.first + g.blocks; blocks = n; kind = kind })
+  pub grows_other : (kind : Change) (n : ℕ) → 0 < n → (kind ≡ g.kind → ⊥) → {space' : List ℕ} {runs' : ℕ}
+      → (space' ≡ laid space g.runs g.first (closed (kind_number g.kind) g.blocks)) → (runs' ≡ g.runs + length (closed (kind_number g.kind) g.blocks))
+      → Grown space g (kind_number kind) n space' (record { runs = runs'; first = g.first + g.blocks; blocks = n; kind = kind })
   grows_other kind n h d e f =
-      let apart : (rest : List ℕ) → runs_with g (replicate n kind ++ rest) ≡ closed g.kind g.blocks ++ runs eqb (replicate n kind ++ rest) =
-      λ rest. closed_before eqb tells_numbers g.kind kind g.blocks n rest h (λ q. d (sym q)) in
+      let apart : (rest : List ℕ) → runs_with g (replicate n (kind_number kind) ++ rest) ≡ closed (kind_number g.kind) g.blocks ++ runs eqb (replicate n (kind_number kind) ++ rest) =
+      λ rest. closed_before eqb tells_numbers (kind_number g.kind) (kind_number kind) g.blocks n rest h (λ q. d (number_tells kind g.kind (sym q))) in
       record {
         puts = λ rest.
-            let next : List (Run ℕ) = runs eqb (replicate n kind ++ rest) in
-            ap (laid space g.runs g.first) (apart rest) ∙ laid_append space g.runs g.first (closed g.kind g.blocks) next
-            ∙ rw (e, f, counted_closed g.kind g.blocks);
+            let next : List (Run ℕ) = runs eqb (replicate n (kind_number kind) ++ rest) in
+            ap (laid space g.runs g.first) (apart rest) ∙ laid_append space g.runs g.first (closed (kind_number g.kind) g.blocks) next
+            ∙ rw (e, f, counted_closed (kind_number g.kind) g.blocks);
         counts = λ rest.
-            let next : List (Run ℕ) = runs eqb (replicate n kind ++ rest) in
-            ap (λ (r : List (Run ℕ)). g.runs + length r) (apart rest) ∙ omega (arith, length-append (closed g.kind g.blocks) next);
+            let next : List (Run ℕ) = runs eqb (replicate n (kind_number kind) ++ rest) in
+            ap (λ (r : List (Run ℕ)). g.runs + length r) (apart rest) ∙ omega (arith, length-append (closed (kind_number g.kind) g.blocks) next);
         blocks = refl;
       }
 
@@ -104,7 +125,7 @@ pub record Lists (s t space₀ space : List ℕ) (a b : Reader) (g : Growing) : 
 
 -- nothing is listed
 abbrev pub none_listed : Growing
-none_listed = record { runs = 0; first = 0; blocks = 0; kind = 0 }
+none_listed = record { runs = 0; first = 0; blocks = 0; kind = Neither }
 
 -- before the first block
 pub lists_start : {s t : List ℕ} (space : List ℕ) → Matched s t → Lists s t space space (opened s) (opened t) none_listed
@@ -127,11 +148,11 @@ module _ {s t space₀ space : List ℕ} {a b : Reader} {g : Growing} (w : Lists
   lists_few = omega (arith, w.counts, w.few)
 
   -- after the last block, once the run that grows is put
-  pub lists_done : a.chunk.blocks ≡ 0 → {space' : List ℕ} {r : ℕ} → space' ≡ laid space g.runs g.first (closed g.kind g.blocks)
-      → r ≡ g.runs + length (closed g.kind g.blocks) → (r ≡ length (diff s t)) × (space' ≡ laid space₀ 0 0 (diff s t))
+  pub lists_done : a.chunk.blocks ≡ 0 → {space' : List ℕ} {r : ℕ} → space' ≡ laid space g.runs g.first (closed (kind_number g.kind) g.blocks)
+      → r ≡ g.runs + length (closed (kind_number g.kind) g.blocks) → (r ≡ length (diff s t)) × (space' ≡ laid space₀ 0 0 (diff s t))
   lists_done z e f =
-      let last : runs_with g (left s t a b) ≡ closed g.kind g.blocks =
-      ap (runs_with g) (none_left w.beside change z) ∙ closed_last eqb tells_numbers g.kind g.blocks in
+      let last : runs_with g (left s t a b) ≡ closed (kind_number g.kind) g.blocks =
+      ap (runs_with g) (none_left w.beside change z) ∙ closed_last eqb tells_numbers (kind_number g.kind) g.blocks in
       (f ∙ ap (λ (r : List (Run ℕ)). g.runs + length r) (sym last) ∙ w.counts, e ∙ ap (laid space g.runs g.first) (sym last) ∙ w.puts)
 
   module _ {kind n : ℕ} (p : InFront change s t a b kind n) where

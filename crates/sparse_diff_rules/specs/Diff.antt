@@ -8,6 +8,8 @@ use Rattle.sparse_write_rules.specs.Runs.{Run, runs}
 use Rattle.sparse_blocks_rules.specs.Blocks.{blocks}
 use Rattle.sparse_blocks_rules.specs.Same.{alike}
 use Rattle.sparse_blocks_rules.specs.Pairs.{each, pair_answer, left_by}
+use Rattle.sparse_diff_rules.specs.declared.Change.{Change}
+use Rattle.sparse_diff_rules.specs.declared.Change.TheVariants.{Neither, OnlyFirst, OnlySecond, Equal, Different}
 
 -- the kinds, "being 0 to 4 in this order": "neither image writes, only the first, only the second, both and equal, both and different"
 abbrev pub change : Block → Block → ℕ
@@ -15,6 +17,14 @@ change none none = 0
 change (some xs) none = 1
 change none (some ys) = 2
 change (some xs) (some ys) = cond (alike xs ys) 3 4
+
+-- the code's kinds, by their numbers
+abbrev pub kind_number : Change → ℕ
+kind_number Neither = 0
+kind_number OnlyFirst = 1
+kind_number OnlySecond = 2
+kind_number Equal = 3
+kind_number Different = 4
 
 -- the kind of each block, in order
 unfoldable pub changes : List ℕ → List ℕ → List ℕ

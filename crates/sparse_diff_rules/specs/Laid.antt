@@ -4,7 +4,7 @@ use Rattle.std.specs.Prelude.{◌≡◌, List, [], ◌∷◌, ◌++◌, ℕ, suc
 use Rattle.fields_rules.specs.Number.{placed}
 use Rattle.sparse_write_rules.specs.Runs.{Run, runs}
 use Rattle.sparse_diff_rules.specs.declared.Growing.{Growing}
-use Rattle.sparse_diff_rules.specs.Diff.{run_numbers}
+use Rattle.sparse_diff_rules.specs.Diff.{kind_number, run_numbers}
 
 -- the space after runs are put, n of which stand in it already; the first to be put begins at a block
 unfoldable pub laid : List ℕ → ℕ → ℕ → List (Run ℕ) → List ℕ
@@ -13,7 +13,7 @@ laid space n first (r ∷ rs) = laid (placed space (3 * n) (run_numbers first r)
 
 -- the runs of the blocks of a run that grows and of blocks with these kinds after them
 abbrev pub runs_with : Growing → List ℕ → List (Run ℕ)
-runs_with g kinds = runs eqb (replicate g.blocks g.kind ++ kinds)
+runs_with g kinds = runs eqb (replicate g.blocks (kind_number g.kind) ++ kinds)
 
 -- what the space comes to with these
 abbrev pub space_with : List ℕ → Growing → List ℕ → List ℕ

@@ -3,9 +3,22 @@
 
 ghost use Rattle.std.specs.Prelude.{◌≡◌, ◌&&◌, ◌*◌, leb, length};
 ghost use Rattle.rules.specs.First.{first};
+ghost use Rattle.rules.specs.Answer.{accepted, unless};
 ghost use Rattle.sparse_rules.specs.Header.{header_of, header_size_right, block_size_right, header_tests};
+ghost use Rattle.sparse_rules.specs.Answers.{answer_of};
 
-use sparse_rules::Header;
+use fields_read::{read16, read32};
+use sparse_rules::{Header, Refusal};
+
+// A refusal at a place of the image.
+pub fn refusal(number: u32, at: usize) -> Refusal
+    ensures { result ≡ record { number = number; place = at } }
+{
+    Refusal {
+        number,
+        place: at as u64,
+    }
+}
 
 // Blocks of so many bytes each, in 64 bits.
 pub fn bytes_of(blocks: u32, block: u32) -> u64
@@ -14,24 +27,17 @@ pub fn bytes_of(blocks: u32, block: u32) -> u64
     blocks as u64 * block as u64
 }
 
-// A field of two bytes, widened.
-fn wide(x: u16) -> u32
-    ensures { result ≡ x }
-{
-    x as u32
-}
-
 // The fields by which the chunks are read.
 pub fn read_header(image: &[u8]) -> Header
     ensures { result ≡ header_of image.now }
 {
     Header {
-        block: fields_read::read32(image, 12),
-        total: fields_read::read32(image, 16),
-        chunks: fields_read::read32(image, 20),
-        checksum: fields_read::read32(image, 24),
-        start: wide(fields_read::read16(image, 8)),
-        head: wide(fields_read::read16(image, 10)),
+        block: read32(image, 12),
+        total: read32(image, 16),
+        chunks: read32(image, 20),
+        checksum: read32(image, 24),
+        start: read16(image, 8) as u32,
+        head: read16(image, 10) as u32,
     }
 }
 
@@ -56,28 +62,28 @@ pub fn block_right(block: u32) -> bool
     (4 <= block) & (block <= 65536) & (block % 4 == 0)
 }
 
-// The first of refusals 1 to 6 that applies, for a partition with so much room; 0 where none does.
-pub fn header_refusal(image: &[u8], room: u64) -> u32
-    ensures { result ≡ first (header_tests image.now (length image.now) room) }
+// The header of an image, for a partition with so much room, or the first of refusals 1 to 6 that applies, at place 0.
+pub fn checked_header(image: &[u8], room: u64) -> Result<Header, Refusal>
+    ensures { answer_of result ≡ unless (first (header_tests image.now (length image.now) room)) 0 (accepted (header_of image.now)) }
 {
     if image.len() < 28 {
-        return 1;
+        return Err(refusal(1, 0));
     }
-    if fields_read::read32(image, 0) != 0xED26FF3A {
-        return 2;
+    if read32(image, 0) != 0xED26FF3A {
+        return Err(refusal(2, 0));
     }
-    if fields_read::read16(image, 4) != 1 {
-        return 3;
+    if read16(image, 4) != 1 {
+        return Err(refusal(3, 0));
     }
     let header = read_header(image);
-    if sizes_right(header.start, header.head, image.len()) {
-        if block_right(header.block) {
-            if room < bytes_of(header.total, header.block) {
-                return 6;
-            }
-            return 0;
-        }
-        return 5;
+    if !sizes_right(header.start, header.head, image.len()) {
+        return Err(refusal(4, 0));
     }
-    4
+    if !block_right(header.block) {
+        return Err(refusal(5, 0));
+    }
+    if room < bytes_of(header.total, header.block) {
+        return Err(refusal(6, 0));
+    }
+    Ok(header)
 }

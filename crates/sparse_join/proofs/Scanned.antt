@@ -12,7 +12,9 @@ use Rattle.sparse_rules.specs.declared.Chunk.{Chunk}
 use Rattle.sparse_rules.specs.Facts.{Summable}
 use Rattle.sparse_rules.proofs.SumLaws.{raw_inside}
 use Rattle.sparse_write_rules.specs.Kinds.{stored_kind}
-use Rattle.sparse_write_rules.specs.Numbered.{kind_numbered}
+use Rattle.std.specs.Prelude.{Option}
+use Rattle.sparse_write_rules.specs.declared.Stored.{Stored}
+use Rattle.sparse_write_rules.specs.KindOf.{kind_of}
 use Rattle.sparse_write_rules.proofs.FlatImage.{block_right}
 use Rattle.sparse_scan.specs.Scan.{whole_blocks, first_kind, run_blocks, after_run}
 use Rattle.sparse_scan.proofs.Whole.{whole_all}
@@ -26,10 +28,10 @@ module _ {s : List ℕ} {b : ℕ} {k : Chunk} {n : ℕ} (w : Summable s b k) (le
   data_inside = omega (arith, raw_inside 0 s b k w e, mul-le-mul_right b few)
 
   -- the first run of them is found
-  pub scanned : {kind m len : ℕ} (next : ℕ) (d : List ℕ) → d ≡ take (k.body + n * b - k.body) (drop k.body s)
-      → kind_numbered kind ≡ first_kind (stored_kind d b) (whole_blocks (length d) b 0) 0
-      → m ≡ run_blocks (stored_kind d b) b (kind_numbered kind) (whole_blocks (length d) b 0) 0 → len ≡ m * b
-      → kind_numbered next ≡ after_run (stored_kind d b) b (kind_numbered kind) (whole_blocks (length d) b 0) 0 → FirstAlike s b k n kind m × (m ≤ n)
+  pub scanned : {kind : Option Stored} {m len : ℕ} (next : Option Stored) (d : List ℕ) → d ≡ take (k.body + n * b - k.body) (drop k.body s)
+      → kind_of kind ≡ first_kind (stored_kind d b) (whole_blocks (length d) b 0) 0
+      → m ≡ run_blocks (stored_kind d b) b (kind_of kind) (whole_blocks (length d) b 0) 0 → len ≡ m * b
+      → kind_of next ≡ after_run (stored_kind d b) b (kind_of kind) (whole_blocks (length d) b 0) 0 → FirstAlike s b k n kind m × (m ≤ n)
   scanned {kind} next d is known found long goes =
       let z : k.body + n * b - k.body ≡ n * b = omega arith in
       let same : d ≡ take (n * b) (drop k.body s) = is ∙ rw z in

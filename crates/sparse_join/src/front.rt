@@ -5,19 +5,13 @@ ghost use Rattle.sparse_rules.specs.Facts.{Summable};
 ghost use Rattle.sparse_blocks_rules.specs.Beside.{Beside};
 ghost use Rattle.sparse_join_rules.specs.Ahead.{FirstAlike, JoinedAlike};
 
-use sparse_blocks::{least, writes};
-use sparse_blocks_rules::Reader;
+use sparse_blocks::{Pair, writes};
+use sparse_blocks_rules::Piece;
 use sparse_rules::{Chunk, Kind};
-
-// So many blocks are of a kind: 0 for don't care, 1 raw, 2 + w fill with the word w.
-#[derive(Clone, Copy)]
-pub(crate) struct Piece {
-    pub(crate) kind: u64,
-    pub(crate) blocks: u32,
-}
+use sparse_write_rules::Stored;
 
 // The first of n blocks of a chunk that are of one kind. The data of a raw chunk are scanned as flat ones are.
-fn first_alike(image: &[u8], chunk: Chunk, block: u32, n: u32) -> Piece
+fn first_alike(image: &[u8], chunk: Chunk, block: u32, n: u32) -> Piece<Option<Stored>>
     requires { Summable image.now block chunk × (4 ≤ block) × (0 < n) × (n ≤ chunk.blocks) }
     ensures { FirstAlike image.now block chunk n result.kind result.blocks }
 {
@@ -37,26 +31,28 @@ fn first_alike(image: &[u8], chunk: Chunk, block: u32, n: u32) -> Piece
         Kind::Fill => {
             let word = fields_read::read32(image, body);
             Piece {
-                kind: 2 + word as u64,
+                kind: Some(Stored::Fill(word)),
                 blocks: n,
             }
         }
-        Kind::DontCare => Piece { kind: 0, blocks: n },
-        Kind::Unknown => Piece { kind: 0, blocks: n },
+        Kind::DontCare | Kind::Unknown => Piece {
+            kind: None,
+            blocks: n,
+        },
     }
 }
 
 // The next blocks, joined.
-pub(crate) fn front(first: &[u8], second: &[u8], a: Reader, b: Reader) -> Piece
-    requires { Beside first.now second.now a b × (0 < a.chunk.blocks) }
-    ensures { JoinedAlike first.now second.now a b result.kind result.blocks }
+pub(crate) fn front(p: Pair<'_>) -> Piece<Option<Stored>>
+    requires { Beside p.first.now p.second.now p.a p.b × (0 < p.a.chunk.blocks) }
+    ensures { JoinedAlike p.entry.first.now p.entry.second.now p.entry.a p.entry.b result.kind result.blocks }
 {
-    let x = a.chunk;
-    let y = b.chunk;
+    let x = p.a.chunk;
+    let y = p.b.chunk;
     let other = y.kind;
-    let n = least(x.blocks, y.blocks);
+    let n = x.blocks.min(y.blocks);
     if writes(other) {
-        return first_alike(second, y, b.header.block, n);
+        return first_alike(p.second, y, p.b.header.block, n);
     }
-    first_alike(first, x, a.header.block, n)
+    first_alike(p.first, x, p.a.header.block, n)
 }

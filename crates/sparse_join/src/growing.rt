@@ -3,6 +3,7 @@ ghost use Rattle.std.specs.Prelude.{◌≡◌, ◌+◌, ◌*◌, ◌≤◌, ◌<
 ghost use Rattle.sparse_join_rules.specs.Grows.{begun, ended_for, turned_to, lengthened, settled_by, sum_turned};
 
 use sparse_join_rules::Growing;
+use sparse_write_rules::Stored;
 
 // Before the first block. The header's place is left free.
 pub(crate) fn begun() -> Growing
@@ -11,23 +12,18 @@ pub(crate) fn begun() -> Growing
     Growing {
         at: 28,
         chunks: 0,
-        kind: 0,
+        kind: None,
         blocks: 0,
     }
 }
 
 // After the last chunk: one of a kind that has no block yet.
-pub(crate) fn ended(g: Growing, kind: u64, block: u32) -> Growing
+pub(crate) fn ended(g: Growing, kind: Option<Stored>, block: u32) -> Growing
     requires { (g.blocks * block ≤ 2147483648) × (g.at < 1099511627776) × (g.chunks < 4294967295) }
     ensures { result ≡ ended_for block g kind }
 {
     if g.blocks == 0 {
-        return Growing {
-            at: g.at,
-            chunks: g.chunks,
-            kind,
-            blocks: 0,
-        };
+        return Growing { kind, ..g };
     }
     let len = sparse_read::bytes_of(g.blocks, block);
     let size = sparse_put::chunk_size(g.kind, len as u32);
@@ -40,14 +36,16 @@ pub(crate) fn ended(g: Growing, kind: u64, block: u32) -> Growing
 }
 
 // Where blocks of a kind go: into the last chunk where it is of that kind, and else into one after it.
-pub(crate) fn turned_to(g: Growing, kind: u64, block: u32) -> Growing
+#[tactic(auto, using(sparse_write_rules::proofs::KindOf::told))]
+pub(crate) fn turned_to(g: Growing, kind: Option<Stored>, block: u32) -> Growing
     requires { (g.blocks * block ≤ 2147483648) × (g.at < 1099511627776) × (g.chunks < 4294967295) }
     ensures { result ≡ turned_to block g kind }
 {
     if kind == g.kind {
-        return g;
+        g
+    } else {
+        ended(g, kind, block)
     }
-    ended(g, kind, block)
 }
 
 // With n blocks more in the last chunk.
@@ -56,10 +54,8 @@ pub(crate) fn lengthened(g: Growing, n: u32) -> Growing
     ensures { result ≡ lengthened g n }
 {
     Growing {
-        at: g.at,
-        chunks: g.chunks,
-        kind: g.kind,
         blocks: g.blocks + n,
+        ..g
     }
 }
 
@@ -68,23 +64,21 @@ pub(crate) fn settled(g: Growing, block: u32, state: u32) -> u32
     ensures { result ≡ settled_by block g state }
 {
     let len = sparse_read::bytes_of(g.blocks, block);
-    let kind = g.kind;
-    if kind == 0 {
-        return crc32::update_zeros(state, len);
+    match g.kind {
+        None => crc32::update_zeros(state, len),
+        Some(Stored::Raw) => state,
+        Some(Stored::Fill(word)) => crc32::update_word(state, word, len / 4),
     }
-    if kind == 1 {
-        return state;
-    }
-    let word = (kind - 2) % 4294967296;
-    crc32::update_word(state, word as u32, len / 4)
 }
 
 // The checksum's state where blocks of a kind go: a last chunk of another kind has ended.
-pub(crate) fn sum_turned(g: Growing, kind: u64, block: u32, state: u32) -> u32
+#[tactic(auto, using(sparse_write_rules::proofs::KindOf::told))]
+pub(crate) fn sum_turned(g: Growing, kind: Option<Stored>, block: u32, state: u32) -> u32
     ensures { result ≡ sum_turned block g kind state }
 {
-    if g.kind == kind {
-        return state;
+    if kind != g.kind {
+        settled(g, block, state)
+    } else {
+        state
     }
-    settled(g, block, state)
 }

@@ -19,27 +19,26 @@ ghost use Rattle.sparse_join_rules.specs.Image.{joined_bytes, joined_runs, joine
 use front::front;
 use growing::{begun, ended, lengthened, settled, sum_turned, turned_to};
 use put::put_front;
-use sparse_blocks::{open, pass};
-use sparse_blocks_rules::Paired;
+use sparse_blocks::Pair;
+use sparse_blocks_rules::{PairRefusal, Paired};
 use sparse_join_rules::Growing;
-use sparse_rules::Refusal;
 
-// The length of the joined image and its number of chunks, found before a byte of it is stored.
+// The length of the joined image and its number of chunks, found before a byte of it is stored. It is no call of `put_chunks`
+// with an output of no bytes, which would work out the checksum twice.
 fn measure(first: &[u8], second: &[u8]) -> Growing
     requires { Matched first.now second.now × (needed first.now ≤ 2147483648) }
     ensures { (result.at ≡ length (join first.now second.now))
         × (result.chunks ≡ length (joined_runs first.now second.now)) }
 {
-    let mut a = open(first);
-    let mut b = open(second);
+    let mut pair = Pair::open(first, second);
     let mut growing = begun();
-    while 0 < a.chunk.blocks {
-        let f = front(first, second, a, b);
-        growing = lengthened(turned_to(growing, f.kind, a.header.block), f.blocks);
-        a = pass(first, a, f.blocks);
-        b = pass(second, b, f.blocks);
+    // Kept by hand, here and below: an iterator over what is in front would hold this pair, and its `next` would be this body.
+    while 0 < pair.a.chunk.blocks {
+        let f = front(pair);
+        growing = lengthened(turned_to(growing, f.kind, pair.a.header.block), f.blocks);
+        pair.pass(f.blocks);
     }
-    ended(growing, 0, a.header.block)
+    ended(growing, None, pair.a.header.block)
 }
 
 // The chunks of the joined image, after the file header, and the checksum's state after their bytes.
@@ -49,27 +48,18 @@ fn put_chunks(out: &mut [u8], first: &[u8], second: &[u8]) -> u32
     ensures { (result ≡ crc_from all_ones (joined_bytes first.now second.now))
         × (out.new ≡ sets out.old 28 (joined_chunks first.now second.now)) }
 {
-    let mut a = open(first);
-    let mut b = open(second);
+    let mut pair = Pair::open(first, second);
     let mut growing = begun();
     let mut state = crc32::start();
-    while 0 < a.chunk.blocks {
-        let f = front(first, second, a, b);
-        let turned = turned_to(growing, f.kind, a.header.block);
-        let summed = sum_turned(growing, f.kind, a.header.block, state);
-        state = put_front(out, turned, first, second, a, b, f.blocks, summed);
+    while 0 < pair.a.chunk.blocks {
+        let f = front(pair);
+        let turned = turned_to(growing, f.kind, pair.a.header.block);
+        let summed = sum_turned(growing, f.kind, pair.a.header.block, state);
+        state = put_front(out, turned, pair, f.blocks, summed);
         growing = lengthened(turned, f.blocks);
-        a = pass(first, a, f.blocks);
-        b = pass(second, b, f.blocks);
+        pair.pass(f.blocks);
     }
-    settled(growing, a.header.block, state)
-}
-
-// A refusal by its number, of both images together.
-fn refused(number: u32) -> Paired
-    ensures { result ≡ Paired.Refused 0 (record { number = number; place = 0 }) }
-{
-    Paired::Refused(0, Refusal { number, place: 0 })
+    settled(growing, pair.a.header.block, state)
 }
 
 // Writes the image that has the effect of the first followed by the second into `out`, and answers its length. A refusal
@@ -79,20 +69,17 @@ pub fn join(first: &[u8], second: &[u8], out: &mut [u8]) -> Paired
     ensures image { image_of result ≡ refused_image first.now second.now }
     ensures contents { out.new ≡ output first.now second.now out.old }
 {
-    let found = sparse_match::matched(first, second);
-    let Paired::Done(_) = found else {
-        return found;
-    };
+    sparse_match::matched(first, second)?;
     let header = sparse_read::read_header(first);
     if 2147483648 < sparse_read::bytes_of(header.total, header.block) {
-        return refused(17);
+        return Err(PairRefusal::Geometry);
     }
     let m = measure(first, second);
     if out.len() < m.at {
-        return refused(18);
+        return Err(PairRefusal::Space);
     }
     let state = put_chunks(out, first, second);
     let sum = crc32::finish(state);
     sparse_put_header::put_header(out, header.block, header.total, m.chunks, sum);
-    Paired::Done(m.at)
+    Ok(m.at)
 }

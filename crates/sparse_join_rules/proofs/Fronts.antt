@@ -2,7 +2,6 @@
 -- Assumes nothing.
 use mathlib.Core.Path.{◌≡◌, refl, sym, ap, ap₂, ◌∙◌}
 use mathlib.Core.Bool.{Bool, true, false}
-use mathlib.Core.Option.{some}
 use mathlib.Core.List.{List, ◌∷◌, map}
 use Prim.Native.Nat.{ℕ, zero, suc, ◌+◌, ◌*◌, ◌/◌, ◌%◌, min, ◌≤◌, ◌<◌}
 use native.Mathlib.Nat.{suc-mul, zero-lt-suc, mul-le-mul_right}
@@ -19,8 +18,12 @@ use Rattle.sparse_rules.specs.Cells.{tab, raw_byte, fill_byte, cells_of, zeroed}
 use Rattle.sparse_rules.proofs.Cells.{get_or-tab, tab_same, length-cells_of, length_zeroed}
 use Rattle.sparse_rules.proofs.Image.{chunk_cells}
 use Rattle.sparse_write_rules.specs.Blocks.{Block, block_cells}
-use Rattle.sparse_write_rules.specs.Kinds.{BlockKind, kept, raw, fill, all_equal, stored_kind, block_kind}
-use Rattle.sparse_write_rules.specs.Numbered.{kind_numbered}
+use Rattle.sparse_write_rules.specs.Kinds.{BlockKind, kept, raw, fill, same_kind, all_equal, stored_kind, block_kind}
+use Rattle.std.specs.Prelude.{Option, None, Some}
+use Rattle.sparse_write_rules.specs.declared.Stored.{Stored}
+use Rattle.sparse_write_rules.specs.declared.Stored.TheVariants as stored
+use Rattle.sparse_write_rules.proofs.Runs.{tells_kinds, apart}
+use Rattle.sparse_write_rules.specs.KindOf.{kind_of}
 use Rattle.sparse_write_rules.proofs.KindSteps.{equal_none, equal_next, kind_fill}
 use Rattle.sparse_write_rules.proofs.FlatImage.{kind_tab}
 use Rattle.sparse_blocks_rules.specs.declared.Reader.{Reader}
@@ -96,8 +99,8 @@ kept_kinds s b k n at e = kinds_stretch s b k kept n at (λ j l. kept_kind s b k
 
 module _ {s : List ℕ} {b : ℕ} {k : Chunk} {n : ℕ} (least : 4 ≤ b) (some_left : 0 < n) where
   -- of a raw one, those that the scan of its data finds alike
-  pub first_raw : k.kind ≡ Raw → {kind m : ℕ} → 0 < m → m ≤ n
-      → ((j : ℕ) → j < m → stored_kind (take (n * b) (drop k.body s)) b (0 + j * b) ≡ kind_numbered kind) → FirstAlike s b k n kind m
+  pub first_raw : k.kind ≡ Raw → {kind : Option Stored} {m : ℕ} → 0 < m → m ≤ n
+      → ((j : ℕ) → j < m → stored_kind (take (n * b) (drop k.body s)) b (0 + j * b) ≡ kind_of kind) → FirstAlike s b k n kind m
   first_raw e {kind} {m} h fits alike =
       record {
         fits = fits;
@@ -106,7 +109,7 @@ module _ {s : List ℕ} {b : ℕ} {k : Chunk} {n : ℕ} (least : 4 ≤ b) (some_
               some = h;
               kinds =
                   rw e
-                  (kinds_stretch s b Raw (kind_numbered kind) m k.body
+                  (kinds_stretch s b Raw (kind_of kind) m k.body
                   (λ j l.
                   let z : 0 + j * b ≡ j * b = omega arith in
                   let more : suc j ≤ n = omega arith in
@@ -117,26 +120,25 @@ module _ {s : List ℕ} {b : ℕ} {k : Chunk} {n : ℕ} (least : 4 ≤ b) (some_
       }
 
   -- of a fill one, all
-  pub first_fill : k.kind ≡ Fill → {kind : ℕ} → kind ≡ 2 + number_at s k.body 4 → FirstAlike s b k n kind n
-  first_fill e {kind} w =
-      let z : kind ≡ suc (suc (number_at s k.body 4)) = omega arith in
+  pub first_fill : k.kind ≡ Fill → {w : ℕ} → w ≡ number_at s k.body 4 → FirstAlike s b k n (Some (stored.Fill w)) n
+  first_fill e {w} h =
       record {
         fits = omega arith;
         alike =
             record {
               some = some_left;
-              kinds = rw (e, z) (fill_kinds s b least n k.body);
+              kinds = rw (e, h) (fill_kinds s b least n k.body);
             };
-        raw = λ y. absurd (omega arith);
+        raw = λ y. absurd (apart same_kind tells_kinds (fill w) raw refl y);
       }
 
   -- of one that is skipped, all
-  pub first_kept : writes k.kind ≡ false → FirstAlike s b k n 0 n
+  pub first_kept : writes k.kind ≡ false → FirstAlike s b k n None n
   first_kept e =
       record {
         fits = omega arith;
         alike = record { some = some_left; kinds = kept_kinds s b k.kind n k.body e };
-        raw = λ y. absurd (omega arith);
+        raw = λ y. absurd (apart same_kind tells_kinds kept raw refl y);
       }
 
 -- ---- joined
@@ -199,7 +201,7 @@ module _ {s t : List ℕ} {a b : Reader} (w : Beside s t a b) where
     pub some_ahead : (0 < m) × (m ≤ a.chunk.blocks) × (m ≤ b.chunk.blocks)
     some_ahead = let h = both_have w some_left in (omega arith, omega arith, omega arith)
 
-    module _ {kind n : ℕ} where
+    module _ {kind : Option Stored} {n : ℕ} where
       -- the next blocks are the second's
       pub joins_second : writes b.chunk.kind ≡ true → FirstAlike t b.header.block b.chunk m kind n → JoinedAlike s t a b kind n
       joins_second e f =

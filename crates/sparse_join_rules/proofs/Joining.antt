@@ -18,7 +18,9 @@ use Rattle.sparse_rules.specs.Header.{header_of, block_size, total_blocks}
 use Rattle.sparse_rules.specs.Cells.{zeroed}
 use Rattle.sparse_write_rules.specs.Blocks.{Block, block_cells, AllFit}
 use Rattle.sparse_write_rules.specs.Kinds.{BlockKind, same_kind, block_kind}
-use Rattle.sparse_write_rules.specs.Numbered.{kind_numbered}
+use Rattle.std.specs.Prelude.{Option}
+use Rattle.sparse_write_rules.specs.declared.Stored.{Stored}
+use Rattle.sparse_write_rules.specs.KindOf.{kind_of}
 use Rattle.sparse_write_rules.specs.Encode.{chunk_size, header, image, encode}
 use Rattle.sparse_write_rules.specs.Parts.{chunk_rest, sizes}
 use Rattle.sparse_write_rules.proofs.Runs.{tells_kinds, spread_runs, count_runs, counted, counted_spread, blocks_small}
@@ -95,7 +97,7 @@ module _ {s t : List ℕ} (m : Matched s t) where
   begins : Beginning s t (opened s) (opened t)
   begins = record { beside = opens_beside m; sized = ap (λ (h : Header). h.block) (opens m.first).2 }
 
-module _ {s t : List ℕ} {a b : Reader} (w : Beginning s t a b) {kind n : ℕ} (p : JoinedAlike s t a b kind n) where
+module _ {s t : List ℕ} {a b : Reader} (w : Beginning s t a b) {kind : Option Stored} {n : ℕ} (p : JoinedAlike s t a b kind n) where
   -- past some blocks
   goes_on : Beginning s t (passed_by s a n) (passed_by t b n)
   goes_on =
@@ -142,7 +144,7 @@ module _ {s t : List ℕ} {a b : Reader} {g : Growing} (w : Measures s t a b g) 
       let r = measure_done (block_size s) (joined_blocks s t) (rw none at w.measured) in
       (rw w.at.sized (r.0 ∙ sym (join_sizes m)), r.1)
 
-  module _ {kind n : ℕ} (p : JoinedAlike s t a b kind n) where
+  module _ {kind : Option Stored} {n : ℕ} (p : JoinedAlike s t a b kind n) where
     -- a turn to the next blocks
     pub measures_turn : Measures s t a b (turned_to a.header.block g kind)
     measures_turn =
@@ -172,7 +174,7 @@ module _ {s t : List ℕ} {a b : Reader} {g : Growing} (w : Measures s t a b g) 
           (omega (arith, many_blocks m small), rw w.at.sized (omega (arith, mul-le-mul_right (block_size s) few)))
 
       -- and ends within the image
-      pub measures_fits : g.at + chunk_size (kind_numbered kind) ((g.blocks + n) * a.header.block) ≤ length (join s t)
+      pub measures_fits : g.at + chunk_size (kind_of kind) ((g.blocks + n) * a.header.block) ≤ length (join s t)
       measures_fits =
           rw w.at.sized
           (omega (arith, join_sizes m, measure_fits (block_size s) (joined_blocks s t) (joined_ahead s t a b n) (left s t (passed_by s a n) (passed_by t b n)) (rw (split w.at p) at w.measured) (of_kind w.at p) e))
@@ -211,7 +213,7 @@ module _ {s t out₀ out : List ℕ} {a b : Reader} {g : Growing} {state : ℕ} 
       let r = lay_done (block_size s) (joined_blocks s t) (subst (Laid (block_size s) (joined_blocks s t) out₀ out state g) (none_left w.at.beside onto e) w.laid) in
       (ap (λ (x : ℕ). settled_by x g state) w.at.sized ∙ r.0, r.1)
 
-  module _ {kind n : ℕ} (p : JoinedAlike s t a b kind n) where
+  module _ {kind : Option Stored} {n : ℕ} (p : JoinedAlike s t a b kind n) where
     -- a turn to the next blocks
     pub lays_turn : Lays s t out₀ out a b (turned_to a.header.block g kind) (sum_turned a.header.block g kind state)
     lays_turn =
@@ -227,7 +229,7 @@ module _ {s t out₀ out : List ℕ} {a b : Reader} {g : Growing} {state : ℕ} 
 
     -- past them, once they are put
     pub lays_on : Bytes s → Bytes t → g.kind ≡ kind → {out' : List ℕ} {state' : ℕ}
-        → state' ≡ crc_from state (chunk_rest (kind_numbered g.kind) (zeroed (block_cells a.header.block (joined_ahead s t a b n))))
+        → state' ≡ crc_from state (chunk_rest (kind_of g.kind) (zeroed (block_cells a.header.block (joined_ahead s t a b n))))
         → out' ≡ put_into out a.header.block g n (zeroed (block_cells a.header.block (joined_ahead s t a b n)))
         → Lays s t out₀ out' (passed_by s a n) (passed_by t b n) (lengthened g n) state'
     lays_on small little e summed put =
@@ -235,14 +237,14 @@ module _ {s t out₀ out : List ℕ} {a b : Reader} {g : Growing} {state : ℕ} 
         let v = w.at.beside in
         let ps : List Block = joined_ahead s t a b n in
         let ys : List ℕ = zeroed (block_cells a.header.block ps) in
-        let waits : Waits a.header.block (kind_numbered g.kind) ys n =
-        alike_waits a.header.block v.first.reads.here.fours (kind_numbered g.kind) ps n (fit_ahead v small little n) (p.alike.kinds ∙ ap (λ (j : ℕ). replicate n (kind_numbered j)) (sym e)) in
+        let waits : Waits a.header.block (kind_of g.kind) ys n =
+        alike_waits a.header.block v.first.reads.here.fours (kind_of g.kind) ps n (fit_ahead v small little n) (p.alike.kinds ∙ ap (λ (j : Option Stored). replicate n (kind_of j)) (sym e)) in
         record {
           at = goes_on w.at p;
           laid =
               lay_more (block_size s) (joined_blocks s t) ps (left s t (passed_by s a n) (passed_by t b n)) (subst (Laid (block_size s) (joined_blocks s t) out₀ out state g) (split w.at p) w.laid)
               (of_kind w.at p) (subst (λ (x : ℕ). x % 4 ≡ 0) z v.first.reads.here.fours) e (ap (λ (x : ℕ). zeroed (block_cells x ps)) z) (ahead_long v n ∙ ap (λ (x : ℕ). n * x) z)
-              (subst (λ (x : ℕ). Waits x (kind_numbered g.kind) ys n) z waits) (put ∙ ap (λ (x : ℕ). put_into out x g n ys) z) summed;
+              (subst (λ (x : ℕ). Waits x (kind_of g.kind) ys n) z waits) (put ∙ ap (λ (x : ℕ). put_into out x g n ys) z) summed;
         }
 
 -- ---- the header

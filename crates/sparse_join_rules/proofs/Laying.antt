@@ -6,8 +6,7 @@ use mathlib.Core.List.{List, [], ◌++◌, append_assoc, append-nil}
 use Prim.Native.Nat.{ℕ, zero, suc, ◌+◌, ◌*◌, ◌%◌, ◌≤◌, ◌<◌}
 use native.Mathlib.Nat.{add-mul}
 use native.Mathlib.Omega.{arith}
-use borrow.Author.Tests.{eqb-false}
-use lib.Dec.{eqb}
+use Rattle.std.specs.Prelude.{Option}
 use lib.ListN.{length, take, drop, length-append}
 use lib.Seq.{sets, length-sets, drop-drop, drop_at}
 use Rattle.fields_rules.specs.Number.{placed}
@@ -22,8 +21,9 @@ use Rattle.sparse_rules.proofs.Cells.{length-tab, zeroed_append, zeroed_raw}
 use Rattle.sparse_rules.proofs.Image.{chunk_cells}
 use Rattle.sparse_rules.proofs.SumLaws.{raw_inside}
 use Rattle.sparse_write_rules.specs.Blocks.{Block, block_cells}
-use Rattle.sparse_write_rules.specs.Kinds.{BlockKind, kept}
-use Rattle.sparse_write_rules.specs.Numbered.{kind_numbered}
+use Rattle.sparse_write_rules.specs.Kinds.{BlockKind, kept, raw, fill, same_kind}
+use Rattle.sparse_write_rules.specs.declared.Stored.{Stored}
+use Rattle.sparse_write_rules.specs.KindOf.{kind_of}
 use Rattle.sparse_write_rules.specs.Runs.{Run, closed}
 use Rattle.sparse_write_rules.specs.Encode.{chunk_size, chunk, chunks}
 use Rattle.sparse_write_rules.specs.Parts.{chunk_top, chunk_rest}
@@ -37,7 +37,7 @@ use Rattle.sparse_join_rules.specs.declared.Growing.{Growing}
 use Rattle.sparse_join_rules.specs.Ahead.{Alike}
 use Rattle.sparse_join_rules.specs.Grows.{begun, last_run, runs_with, ended_for, turned_to, lengthened, put_into, waiting, settled_by, sum_turned}
 use Rattle.sparse_join_rules.proofs.Waiting.{waiting_none, Waits, sum_more}
-use Rattle.sparse_join_rules.proofs.Measuring.{runs_more, runs_turn, runs_end, counted_closed, every_run, Measured, measure_start, measure_turn, measure_more}
+use Rattle.sparse_join_rules.proofs.Measuring.{runs_more, runs_turn, runs_end, counted_closed, every_run, Measured, measure_start, measure_turn, measure_more, turns}
 
 -- ---- the last chunk
 
@@ -82,34 +82,34 @@ chunk_grown b d before k m n ys l i h e =
 
 -- ---- blocks of a chunk of an image
 
-rest_same : (kind : ℕ) (xs ys : List ℕ) → (kind ≡ 1 → xs ≡ ys) → chunk_rest (kind_numbered kind) xs ≡ chunk_rest (kind_numbered kind) ys
-rest_same zero xs ys h = refl
-rest_same (suc zero) xs ys h = h refl
-rest_same (suc (suc w)) xs ys h = refl
+rest_same : (kind : BlockKind) (xs ys : List ℕ) → (kind ≡ raw → xs ≡ ys) → chunk_rest kind xs ≡ chunk_rest kind ys
+rest_same kept xs ys h = refl
+rest_same raw xs ys h = h refl
+rest_same (fill w) xs ys h = refl
 
 raw_bytes : (s : List ℕ) (b : ℕ) (k : Chunk) → Summable s b k → k.kind ≡ Raw → take (k.blocks * b) (drop k.body s) ≡ zeroed (cells_of s b k)
 raw_bytes s b k w e = sym (ap zeroed (chunk_cells s b k) ∙ rw e (zeroed_raw s k.body (k.blocks * b) (raw_inside 0 s b k w e)))
 
 -- their data as they stand in the image, where they are raw
-pub piece_rest : {s : List ℕ} {b : ℕ} {k : Chunk} → Summable s b k → (kind : ℕ) → (kind ≡ 1 → k.kind ≡ Raw)
-    → chunk_rest (kind_numbered kind) (take (k.blocks * b) (drop k.body s)) ≡ chunk_rest (kind_numbered kind) (zeroed (cells_of s b k))
+pub piece_rest : {s : List ℕ} {b : ℕ} {k : Chunk} → Summable s b k → (kind : BlockKind) → (kind ≡ raw → k.kind ≡ Raw)
+    → chunk_rest kind (take (k.blocks * b) (drop k.body s)) ≡ chunk_rest kind (zeroed (cells_of s b k))
 piece_rest {s} {b} {k} w kind raw-only = rest_same kind (take (k.blocks * b) (drop k.body s)) (zeroed (cells_of s b k)) (λ i. raw_bytes s b k w (raw-only i))
 
 -- they are put into the last chunk: its beginning, and their data after what stands there
 pub piece_put : {s : List ℕ} {b : ℕ} {k : Chunk} → Summable s b k → (out : List ℕ) (g : Growing)
-    → g.at + chunk_size (kind_numbered g.kind) ((g.blocks + k.blocks) * b) ≤ length out → (g.kind ≡ 1 → k.kind ≡ Raw) → {z : ℕ} {out₁ out₂ : List ℕ}
-    → z ≡ chunk_size (kind_numbered g.kind) (g.blocks * b + k.blocks * b)
-    → out₁ ≡ placed out g.at (chunk_top (kind_numbered g.kind) (g.blocks + k.blocks) z)
-    → out₂ ≡ sets out₁ (g.at + 12 + g.blocks * b) (chunk_rest (kind_numbered g.kind) (take (k.blocks * b) (drop k.body s)))
+    → g.at + chunk_size (kind_of g.kind) ((g.blocks + k.blocks) * b) ≤ length out → (kind_of g.kind ≡ raw → k.kind ≡ Raw) → {z : ℕ} {out₁ out₂ : List ℕ}
+    → z ≡ chunk_size (kind_of g.kind) (g.blocks * b + k.blocks * b)
+    → out₁ ≡ placed out g.at (chunk_top (kind_of g.kind) (g.blocks + k.blocks) z)
+    → out₂ ≡ sets out₁ (g.at + 12 + g.blocks * b) (chunk_rest (kind_of g.kind) (take (k.blocks * b) (drop k.body s)))
     → out₂ ≡ put_into out b g k.blocks (zeroed (cells_of s b k))
 piece_put {s} {b} {k} w out g room raw-only e put more =
-    let kind : BlockKind = kind_numbered g.kind in
+    let kind : BlockKind = kind_of g.kind in
     let n : ℕ = g.blocks + k.blocks in
     let size = e ∙ ap (chunk_size kind) (sym (add-mul g.blocks k.blocks b)) in
     more
     ∙ ap₂ (λ (l r : List ℕ). sets l (g.at + 12 + g.blocks * b) r)
     (put ∙ ap (λ (x : ℕ). placed out g.at (chunk_top kind n x)) size ∙ top_fits kind n (n * b) out g.at room)
-    (piece_rest w g.kind raw-only)
+    (piece_rest w kind raw-only)
 
 -- ---- the output
 
@@ -169,12 +169,12 @@ module _ (b : ℕ) (xs : List Block) where
   pub lay_long : {out₀ out : List ℕ} {state : ℕ} {g : Growing} {left : List Block} → Laid out₀ out state g left → length out ≡ length out₀
   lay_long {out₀} {g = g} w = ap length w.holds ∙ length-sets out₀ 28 (w.done ++ chunks b (bytes_of xs) w.before (last_run g))
 
-  module _ (ps left : List Block) {out₀ out : List ℕ} {state : ℕ} {g : Growing} (w : Laid out₀ out state g (ps ++ left)) {kind n : ℕ} (p : Alike b ps kind n) where
+  module _ (ps left : List Block) {out₀ out : List ℕ} {state : ℕ} {g : Growing} (w : Laid out₀ out state g (ps ++ left)) {kind : Option Stored} {n : ℕ} (p : Alike b ps kind n) where
     -- a turn to blocks of a kind
     pub lay_turn : Laid out₀ out (sum_turned b g kind state) (turned_to b g kind) (ps ++ left)
-    lay_turn = go (eqb kind g.kind) refl (measure_turn b xs ps left w.measured p)
+    lay_turn = go (same_kind (kind_of kind) (kind_of g.kind)) refl (measure_turn b xs ps left w.measured p)
       where
-        go : (x : Bool) → eqb kind g.kind ≡ x → Measured b xs (cond x g (ended_for b g kind)) (ps ++ left) → Laid out₀ out (cond x state (settled_by b g state)) (cond x g (ended_for b g kind)) (ps ++ left)
+        go : (x : Bool) → same_kind (kind_of kind) (kind_of g.kind) ≡ x → Measured b xs (cond x g (ended_for b g kind)) (ps ++ left) → Laid out₀ out (cond x state (settled_by b g state)) (cond x g (ended_for b g kind)) (ps ++ left)
         go true e m = w
         go false e m =
             let d : List ℕ = bytes_of xs in
@@ -183,8 +183,8 @@ module _ (b : ℕ) (xs : List Block) where
             let rs : List (Run BlockKind) = runs_with b (ended_for b g kind) (ps ++ left) in
             let z : on + 0 * b ≡ on = omega arith in
             let apart : chunks b d w.before (runs_with b g (ps ++ left)) ≡ last ++ chunks b d on rs =
-            ap (chunks b d w.before) (runs_turn p g (eqb-false kind g.kind e) left) ∙ chunks-append b d w.before (last_run g) rs
-            ∙ ap (λ (i : ℕ). last ++ chunks b d (w.before + i * b) rs) (counted_closed (kind_numbered g.kind) g.blocks) in
+            ap (chunks b d w.before) (runs_turn p g (turns g kind e) left) ∙ chunks-append b d w.before (last_run g) rs
+            ∙ ap (λ (i : ℕ). last ++ chunks b d (w.before + i * b) rs) (counted_closed (kind_of g.kind) g.blocks) in
             record {
               measured = m;
               done = w.done ++ last;
@@ -194,15 +194,15 @@ module _ (b : ℕ) (xs : List Block) where
               rest = rw z w.rest;
               room = w.room;
               holds = w.holds ∙ ap (sets out₀ 28) (sym (append-nil (w.done ++ last)) ∙ ap (λ (r : List ℕ). (w.done ++ last) ++ r) (sym (chunks_nil b d on)));
-              sum = w.sum ∙ ap (λ (c : ℕ). crc_from c (bytes_of (ps ++ left))) (sym (ap (crc_from (settled_by b g state)) (waiting_none b (kind_numbered kind)) ∙ crc_nil (settled_by b g state)));
+              sum = w.sum ∙ ap (λ (c : ℕ). crc_from c (bytes_of (ps ++ left))) (sym (ap (crc_from (settled_by b g state)) (waiting_none b (kind_of kind)) ∙ crc_nil (settled_by b g state)));
             }
 
     -- blocks of the last chunk's kind are put into it
-    pub lay_more : b % 4 ≡ 0 → g.kind ≡ kind → {ys out' : List ℕ} {state' : ℕ} → ys ≡ bytes_of ps → length ys ≡ n * b → Waits b (kind_numbered g.kind) ys n
-        → out' ≡ put_into out b g n ys → state' ≡ crc_from state (chunk_rest (kind_numbered g.kind) ys) → Laid out₀ out' state' (lengthened g n) left
+    pub lay_more : b % 4 ≡ 0 → g.kind ≡ kind → {ys out' : List ℕ} {state' : ℕ} → ys ≡ bytes_of ps → length ys ≡ n * b → Waits b (kind_of g.kind) ys n
+        → out' ≡ put_into out b g n ys → state' ≡ crc_from state (chunk_rest (kind_of g.kind) ys) → Laid out₀ out' state' (lengthened g n) left
     lay_more fours e {ys} {out'} {state'} is long waits put summed =
         let d : List ℕ = bytes_of xs in
-        let k : BlockKind = kind_numbered g.kind in
+        let k : BlockKind = kind_of g.kind in
         let m : ℕ = g.blocks in
         let here : ℕ = w.before + m * b in
         let ahead : drop here d ≡ ys ++ bytes_of left = w.rest ∙ bytes_append ps left ∙ ap (λ (r : List ℕ). r ++ bytes_of left) (sym is) in

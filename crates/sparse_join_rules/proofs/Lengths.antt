@@ -25,7 +25,7 @@ use Rattle.sparse_write_rules.specs.Parts.{sizes}
 use Rattle.sparse_write_rules.proofs.Runs.{split_blocks}
 use Rattle.sparse_write_rules.proofs.Chunks.{size_most, sizes_front, sizes_alike}
 use Rattle.sparse_write_rules.proofs.FlatImage.{block_good}
-use Rattle.sparse_blocks_rules.specs.Blocks.{pace, stretch, blocks_of, needed, blocks}
+use Rattle.sparse_blocks_rules.specs.Blocks.{pace, stretch, blocks_of, needed}
 use Rattle.sparse_blocks_rules.specs.Pairs.{each, Matched}
 use Rattle.sparse_blocks_rules.proofs.Stretches.{length_stretch, stretch_drop, stretch_take, stretch_none, blocks_cons, blocks_nil}
 use Rattle.sparse_blocks_rules.proofs.Giving.{judges, blocks_are, right_size}

@@ -3,13 +3,12 @@
 use mathlib.Core.Path.{◌≡◌, refl, sym, ap, ap₂, subst, ◌∙◌}
 use mathlib.Core.Option.{none, some}
 use mathlib.Core.List.{List, [], ◌∷◌, ◌++◌, map, flatten}
-use Prim.Native.Nat.{ℕ, zero, suc, ◌+◌, ◌-◌, ◌*◌, ◌/◌, ◌%◌, ◌<◌}
+use Prim.Native.Nat.{ℕ, zero, suc, ◌+◌, ◌*◌, ◌/◌, ◌%◌, ◌<◌}
 use native.Mathlib.Nat.{add-mul}
 use native.Mathlib.Omega.{arith}
-use borrow.Author.Tests.{eq-eqb, ne_eqb}
+use Rattle.std.specs.Prelude.{None, Some}
 use lib.ListN.{length, get_or, drop, replicate, replicate-append-replicate}
 use Rattle.fields_rules.specs.Number.{bytes}
-use Rattle.fields_rules.proofs.Laws.{bytes_low}
 use Rattle.crc32_rules.specs.Crc.{crc_from}
 use Rattle.crc32_rules.specs.Power.{repeated}
 use Rattle.crc32_rules.proofs.Laws.{crc_nil, crc-append, repeated_add}
@@ -18,13 +17,13 @@ use Rattle.sparse_rules.proofs.Cells.{zeroed_append, zeroed_some, zeroed_none}
 use Rattle.sparse_rules.proofs.SumLaws.{words}
 use Rattle.sparse_write_rules.specs.Blocks.{Block, cells_of_block, block_cells, Fits, AllFit}
 use Rattle.sparse_write_rules.specs.Kinds.{BlockKind, kept, raw, fill, stored_kind, block_kind}
-use Rattle.sparse_write_rules.specs.Numbered.{kind_numbered}
+use Rattle.sparse_write_rules.specs.declared.Stored.TheVariants.{Raw, Fill}
 use Rattle.sparse_write_rules.specs.Parts.{chunk_rest}
 use Rattle.sparse_write_rules.proofs.KindCells.{WordFits, stored_fits, Stores, stored_stores}
 use Rattle.sparse_write_rules.proofs.FlatImage.{flat_table}
-use Rattle.sparse_write_rules.proofs.Numbered.{number_fill, run_holds}
+use Rattle.sparse_write_rules.proofs.KindOf.{run_holds}
 use Rattle.sparse_join_rules.specs.declared.Growing.{Growing}
-use Rattle.sparse_join_rules.specs.Grows.{waiting, settled_by, sum_turned}
+use Rattle.sparse_join_rules.specs.Grows.{waiting, settled_by}
 
 -- no blocks, no bytes
 pub waiting_none : (b : ℕ) (k : BlockKind) → waiting b k 0 ≡ []
@@ -103,24 +102,13 @@ sum_more b fours (fill w) state m n ys rest h = later_more b fours (fill w) stat
 
 module _ (b : ℕ) (g : Growing) (state : ℕ) {len r : ℕ} (many : len ≡ g.blocks * b) where
   -- don't care: zeros
-  pub settle_kept : g.kind ≡ 0 → r ≡ crc_from state (replicate len 0) → r ≡ settled_by b g state
+  pub settle_kept : g.kind ≡ None → r ≡ crc_from state (replicate len 0) → r ≡ settled_by b g state
   settle_kept e h = h ∙ rw (e, many)
 
   -- fill: the word, over and over
-  pub settle_fill : (g.kind ≡ 0 → ⊥) → (g.kind ≡ 1 → ⊥) → r ≡ crc_from state (repeated (len / 4) (bytes 4 ((g.kind - 2) % 4294967296))) → r ≡ settled_by b g state
-  settle_fill d f h =
-      let w : ℕ = g.kind - 2 in
-      let is : kind_numbered g.kind ≡ fill (g.kind - 2) = number_fill g.kind (g.kind - 2) (omega (arith, d, f)) in
-      h ∙ ap₂ (λ (n : ℕ) (x : List ℕ). crc_from state (repeated (n / 4) x)) many (bytes_low 4 w 4294967296 refl (omega arith))
-      ∙ ap (λ (k : BlockKind). crc_from state (waiting b k g.blocks)) (sym is)
+  pub settle_fill : {w : ℕ} → g.kind ≡ Some (Fill w) → r ≡ crc_from state (repeated (len / 4) (bytes 4 w)) → r ≡ settled_by b g state
+  settle_fill e h = h ∙ rw (e, many)
 
 -- raw: nothing waits
-pub settle_raw : (b : ℕ) (g : Growing) (state : ℕ) → g.kind ≡ 1 → state ≡ settled_by b g state
+pub settle_raw : (b : ℕ) (g : Growing) (state : ℕ) → g.kind ≡ Some Raw → state ≡ settled_by b g state
 settle_raw b g state e = sym (rw e (crc_nil state))
-
--- the last chunk goes on, or another begins
-pub sum_same : (b : ℕ) (g : Growing) (kind state : ℕ) → g.kind ≡ kind → state ≡ sum_turned b g kind state
-sum_same b g kind state e = rw (eq-eqb kind g.kind (sym e))
-
-pub sum_other : (b : ℕ) (g : Growing) (kind state : ℕ) → (g.kind ≡ kind → ⊥) → settled_by b g state ≡ sum_turned b g kind state
-sum_other b g kind state d = rw (ne_eqb kind g.kind (λ e. d (sym e)))

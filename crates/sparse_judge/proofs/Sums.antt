@@ -103,8 +103,8 @@ pub record Turn (s : List ℕ) (h : Header) (n : ℕ) (c : Cursor) (x : Sum) : T
   pub few : x.zeros ≤ c.first * h.block
 
 -- the walk begins with the state before the first byte, and no zeros
-pub turn_start : (s : List ℕ) (h : Header) (state : ℕ) → h ≡ header_of s → state ≡ all_ones → Turn s h h.chunks (origin h) (record { state = state; zeros = 0 })
-turn_start s h state g z = record { goes = summing_start s h (state_of (record { state = state; zeros = 0 })) g (crc_nil state ∙ z); few = zero-le }
+pub turn_start : (s : List ℕ) (h : Header) (state : ℕ) → h ≡ header_of s → state ≡ all_ones → {n : ℕ} → n ≡ h.chunks → Turn s h n (origin h) (record { state = state; zeros = 0 })
+turn_start s h state g z e = rw e (record { goes = summing_start s h (state_of (record { state = state; zeros = 0 })) g (crc_nil state ∙ z); few = zero-le })
 
 module _ (s : List ℕ) (h : Header) (n : ℕ) (c : Cursor) (x : Sum) (i : Turn s h n c x) (k : Chunk) (next : Cursor) (e : reading s (length s) h c ≡ chunk k next) where
   -- the zeros that wait, with the chunk's own bytes, are no more than the blocks before the next cursor have
@@ -122,6 +122,8 @@ module _ (s : List ℕ) (h : Header) (n : ℕ) (c : Cursor) (x : Sum) (i : Turn 
       omega (arith, waits)
 
   -- a chunk that is read
-  pub turn_step : 0 < n → (r : Sum) → Summed x s h.block k r → Turn s h (n - 1) next r
-  turn_step p r w =
-      record { goes = summing_step s h n c (state_of x) i.goes k next (state_of r) p e w.0; few = le_trans w.1 waits }
+  pub turn_step : {m : ℕ} → m + 1 ≡ n → (r : Sum) → Summed x s h.block k r → Turn s h m next r
+  turn_step {m} p r w =
+      let q : n - 1 ≡ m = omega arith in
+      let some : 0 < n = omega arith in
+      rw (← q) (record { goes = summing_step s h n c (state_of x) i.goes k next (state_of r) some e w.0; few = le_trans w.1 waits })

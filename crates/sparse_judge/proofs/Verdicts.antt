@@ -2,7 +2,7 @@
 -- Assumes nothing.
 use mathlib.Core.Path.{◌≡◌, refl, sym, ap, ◌∙◌}
 use mathlib.Core.List.{List}
-use Prim.Native.Nat.{ℕ, ◌<◌}
+use Prim.Native.Nat.{ℕ, zero, suc, ◌<◌, ◌≤◌, ◌%◌}
 use native.Mathlib.Omega.{arith}
 use lib.ListN.{length}
 use Rattle.rules.specs.First.{first}
@@ -15,7 +15,7 @@ use Rattle.sparse_rules.specs.Counts.{counts_of}
 use Rattle.sparse_rules.specs.Judge.{sum_tests, structure}
 use Rattle.rules.specs.Answer.{Answer, refused, accepted, unless}
 use Rattle.sparse_rules.specs.Answers.{answer_for, answer}
-use Rattle.sparse_rules.proofs.Facts.{judged_header, judged_structure, judged_sum}
+use Rattle.sparse_rules.proofs.Facts.{judged_header, judged_structure, judged_sum, header_facts}
 use Rattle.sparse_rules.proofs.Image.{structure_walk}
 use Rattle.rules.proofs.Answer.{onward_unless}
 
@@ -28,12 +28,39 @@ abbrev pub Checked : List ℕ → Counts → Answer Counts → Type 0
 Checked s c a = (ks : List Chunk) → structure s (length s) ≡ accepted ks → a ≡ unless (first (sum_tests s ks)) 24 (accepted c)
 
 module _ (s : List ℕ) (room : ℕ) where
+  -- what the tests of the header answer
+  abbrev pub tested : Answer Header
+  tested = unless (first (header_tests s (length s) room)) 0 (accepted (header_of s))
+
   -- a header that is refused
-  pub answer_header : (n : ℕ) → n ≡ first (header_tests s (length s) room) → (n ≡ 0 → ⊥) → refused n 0 ≡ answer s (length s) room
+  pub answer_header : (n place : ℕ) → refused n place ≡ tested → refused n place ≡ answer s (length s) room
   unfolding answer answer_for
-  answer_header n e z =
-      let p : 0 < first (header_tests s (length s) room) = omega (arith, e) in
-      rw (judged_header s (length s) room p, e)
+  answer_header n place e = go (first (header_tests s (length s) room)) refl
+    where
+      go : (m : ℕ) → first (header_tests s (length s) room) ≡ m → refused n place ≡ answer s (length s) room
+      go zero q = let z : refused n place ≡ accepted (header_of s) = e ∙ rw q in cc
+      go (suc m) q =
+          let p : 0 < first (header_tests s (length s) room) = omega arith in
+          let r : refused n place ≡ refused (suc m) 0 = e ∙ rw q in
+          rw (judged_header s (length s) room p, q) (cc)
+
+  -- a header that passes
+  pub record Passed (h : Header) : Type 0 where
+    pub is : h ≡ header_of s
+    pub tests : first (header_tests s (length s) room) ≡ 0
+    pub block_most : h.block ≤ 65536
+    pub block_fours : h.block % 4 ≡ 0
+
+  pub passed : (h : Header) → accepted h ≡ tested → Passed h
+  passed h e = go (first (header_tests s (length s) room)) refl
+    where
+      go : (m : ℕ) → first (header_tests s (length s) room) ≡ m → Passed h
+      go zero q =
+          let z : accepted h ≡ accepted (header_of s) = e ∙ rw q in
+          let i : h ≡ header_of s = cc in
+          let f = rw (← i) at (header_facts s (length s) room q) in
+          record { is = i; tests = q; block_most = f.block_most; block_fours = f.block_fours }
+      go (suc m) q = let z : accepted h ≡ refused (suc m) 0 = e ∙ rw q in cc
 
   module _ (passed : first (header_tests s (length s) room) ≡ 0) where
     refused_at : (f : Finding) → structure s (length s) ≡ f → (n place : ℕ) → refused n place ≡ answer_for f → refused n place ≡ answer s (length s) room

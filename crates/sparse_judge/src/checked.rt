@@ -8,9 +8,8 @@ ghost use Rattle.sparse_rules.specs.Judge.{sum_tests, structure};
 ghost use Rattle.sparse_rules.specs.Answers.{answer_of};
 
 use crate::sum::{Sum, settled, sum_chunk};
-use sparse_read::{read_chunk, refusal_of};
-use sparse_rules::{ChunkRead, Counts, Cursor, Header, Verdict};
-use sparse_structure::refuse;
+use sparse_read::{read_chunk, refusal};
+use sparse_rules::{Counts, Cursor, Header, Verdict};
 
 // The answer to an image whose structure holds, with these counts of blocks: accepted where it states
 // no checksum or the true one, and else refused.
@@ -20,28 +19,23 @@ pub(crate) fn checked(image: &[u8], header: Header, counts: Counts) -> Verdict
         → answer_of result ≡ unless (first (sum_tests image.now ks)) 24 (accepted counts) }
 {
     if header.checksum == 0 {
-        return Verdict::Accepted(counts);
+        return Ok(counts);
     }
     let mut cursor = Cursor {
         at: header.start as usize,
         first: 0,
     };
-    let mut left = header.chunks;
     let mut sum = Sum {
         state: crc32::start(),
         zeros: 0,
     };
-    while 0 < left {
-        let r = read_chunk(image, header, cursor);
-        let ChunkRead::Chunk(chunk, next) = r else {
-            return Verdict::Refused(refusal_of(r));
-        };
+    for _turn in 0..header.chunks {
+        let (chunk, next) = read_chunk(image, header, cursor)?;
         sum = sum_chunk(sum, image, header.block, chunk);
         cursor = next;
-        left = left - 1;
     }
     if crc32::finish(settled(sum)) != header.checksum {
-        return refuse(11, 24);
+        return Err(refusal(11, 24));
     }
-    Verdict::Accepted(counts)
+    Ok(counts)
 }

@@ -30,24 +30,18 @@ pub(crate) fn sum_chunk(sum: Sum, image: &[u8], block: u32, chunk: Chunk) -> Sum
         × (result.zeros ≤ sum.zeros + chunk.blocks * block) }
 {
     let n = chunk.blocks as u64 * block as u64;
-    let body = chunk.body;
-    let kind = chunk.kind;
-    match kind {
+    match chunk.kind {
         Kind::Raw => {
-            let end = body + n as usize;
-            let state = crc32::update(settled(sum), &image[body..end]);
+            let end = chunk.body + n as usize;
+            let state = crc32::update(settled(sum), &image[chunk.body..end]);
             Sum { state, zeros: 0 }
         }
         Kind::Fill => {
-            let word = fields_read::read32(image, body);
+            let word = fields_read::read32(image, chunk.body);
             let state = crc32::update_word(settled(sum), word, n / 4);
             Sum { state, zeros: 0 }
         }
-        Kind::DontCare => Sum {
-            state: sum.state,
-            zeros: sum.zeros + n,
-        },
-        Kind::Unknown => Sum {
+        Kind::DontCare | Kind::Unknown => Sum {
             state: sum.state,
             zeros: sum.zeros + n,
         },

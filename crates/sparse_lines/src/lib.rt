@@ -1,78 +1,56 @@
-// The lister's lines, each put into a lent buffer from a place on.
+// The lister's lines, each put into a lent buffer.
 #![tactic(auto)]
 
-ghost use Rattle.text_rules.specs.Put.{Put};
+ghost use Rattle.text.specs.Texts.{Puts};
 ghost use Rattle.text_rules.specs.Words.{labelled};
 ghost use Rattle.sparse_list_rules.specs.Lines.{kind_word, refused_line, header_line, chunk_line, last_line};
 
 use sparse_rules::{Chunk, Counts, Header, Kind, Refusal};
+use text::Text;
 
 // The line of a refusal.
-pub fn put_refused(out: &mut [u8], refusal: Refusal) -> usize
-    ensures { Put out.old 0 (refused_line refusal.number refusal.place) out.new result }
+pub fn put_refused(out: &mut Text, refusal: Refusal)
+    ensures { Puts out.old (refused_line refusal.number refusal.place) out.new }
 {
-    let number = refusal.number as u64;
-    text::put_pair(out, 0, b"refused ", number, b" at ", refusal.place)
+    out.put_labelled(b"refused ", refusal.number as u64);
+    out.put_line(b" at ", refusal.place);
 }
 
 // The first line of an accepted image.
-pub fn put_header(out: &mut [u8], header: Header) -> usize
-    ensures { Put out.old 0 (header_line header) out.new result }
+pub fn put_header(out: &mut Text, header: Header)
+    ensures { Puts out.old (header_line header) out.new }
 {
-    let block = header.block as u64;
-    let total = header.total as u64;
-    let chunks = header.chunks as u64;
-    text::put_triple(
-        out,
-        0,
-        b"block ",
-        block,
-        b" total ",
-        total,
-        b" chunks ",
-        chunks,
-    )
+    out.put_labelled(b"block ", header.block as u64);
+    out.put_labelled(b" total ", header.total as u64);
+    out.put_line(b" chunks ", header.chunks as u64);
 }
 
 // What a chunk is called, and a number after it.
-fn put_kind(out: &mut [u8], at: usize, kind: Kind, n: u64) -> usize
-    ensures { Put out.old at (labelled (kind_word kind) n) out.new result }
+fn put_kind(out: &mut Text, kind: Kind, n: u64)
+    ensures { Puts out.old (labelled (kind_word kind) n) out.new }
 {
     match kind {
-        Kind::Raw => text::put_labelled(out, at, b" raw ", n),
-        Kind::Fill => text::put_labelled(out, at, b" fill ", n),
-        Kind::DontCare => text::put_labelled(out, at, b" skip ", n),
-        Kind::Unknown => text::put_labelled(out, at, b" unknown ", n),
+        Kind::Raw => out.put_labelled(b" raw ", n),
+        Kind::Fill => out.put_labelled(b" fill ", n),
+        Kind::DontCare => out.put_labelled(b" skip ", n),
+        Kind::Unknown => out.put_labelled(b" unknown ", n),
     }
 }
 
 // The line of a chunk whose first block is given.
-pub fn put_chunk(out: &mut [u8], at: usize, first: u32, chunk: Chunk) -> usize
-    ensures { Put out.old at (chunk_line first chunk) out.new result }
+pub fn put_chunk(out: &mut Text, first: u32, chunk: Chunk)
+    ensures { Puts out.old (chunk_line first chunk) out.new }
 {
-    let block = first as u64;
-    let blocks = chunk.blocks as u64;
-    let kind = chunk.kind;
-    let next = text::put_number(out, at, block);
-    let end = put_kind(out, next, kind, blocks);
-    text::put(out, end, b"\n")
+    out.put_number(first as u64);
+    put_kind(out, chunk.kind, chunk.blocks as u64);
+    out.put(b"\n");
 }
 
 // The last line of an accepted image.
-pub fn put_last(out: &mut [u8], at: usize, counts: Counts) -> usize
-    ensures { Put out.old at (last_line counts) out.new result }
+pub fn put_last(out: &mut Text, counts: Counts)
+    ensures { Puts out.old (last_line counts) out.new }
 {
-    let written = counts.written as u64;
-    let skipped = counts.dont_care as u64;
-    let unknown = counts.unknown as u64;
-    text::put_triple(
-        out,
-        at,
-        b"ok written ",
-        written,
-        b" skipped ",
-        skipped,
-        b" unknown ",
-        unknown,
-    )
+    out.put_labelled(b"ok written ", counts.written as u64);
+    out.put_labelled(b" skipped ", counts.dont_care as u64);
+    out.put_line(b" unknown ", counts.unknown as u64);
 }

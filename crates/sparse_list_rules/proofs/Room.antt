@@ -10,6 +10,7 @@ use native.Mathlib.Omega.{arith}
 use lib.Dec.{leb}
 use lib.ListN.{length, length-append}
 use borrow.Author.Tests.{leb-true, leb-false, le-leb, lt-leb}
+use Rattle.std.specs.Prelude.{Ok, Err}
 use Rattle.text_rules.specs.Input.{longest, partition, too_long}
 use Rattle.text_rules.specs.Put.{Put}
 use Rattle.text_rules.proofs.Putting.{put_length, put_start}
@@ -24,7 +25,6 @@ use Rattle.sparse_rules.specs.Judge.{judged}
 use Rattle.sparse_rules.proofs.Walk.{stepped, ended}
 use Rattle.sparse_rules.proofs.Facts.{chunk_facts, accepted_facts}
 use Rattle.sparse_rules.proofs.Image.{chunks_walked}
-use Rattle.sparse_list_rules.specs.declared.Listed.TheVariants.{Whole, TooShort}
 use Rattle.sparse_list_rules.specs.Lines.{chunk_line}
 use Rattle.sparse_list_rules.proofs.Lengths.{refused_most, header_most, chunk_most, last_most}
 use Rattle.sparse_list_rules.specs.Listing.{chunk_lines, listing_of, listing, output, held_of, held, most, AlwaysWhole}
@@ -75,7 +75,7 @@ always_whole s room p = le-leb (length (listing s)) room (omega (arith, listing_
 -- a text that has been put from the start of a buffer
 module _ (s : List ℕ) {a b : List ℕ} {n : ℕ} (p : Put a 0 (listing s) b n) where
   -- with room for all of it
-  pub whole : n ≤ length b → (held_of (Whole n) ≡ held s (length a)) × (b ≡ output s a)
+  pub whole : n ≤ length b → (held_of (Ok n) ≡ held s (length a)) × (b ≡ output s a)
   unfolding held output
   whole h =
       let t = put_start (omega (arith, listing_most s)) p in
@@ -83,7 +83,7 @@ module _ (s : List ℕ) {a b : List ℕ} {n : ℕ} (p : Put a 0 (listing s) b n)
       (rw (t.0, le-leb (length (listing s)) (length a) fits), t.1)
 
   -- and with too little
-  pub too_short : length b < n → (held_of (TooShort n) ≡ held s (length a)) × (b ≡ output s a)
+  pub too_short : length b < n → (held_of (Err (record { needs = n })) ≡ held s (length a)) × (b ≡ output s a)
   unfolding held output
   too_short h =
       let t = put_start (omega (arith, listing_most s)) p in
@@ -91,7 +91,7 @@ module _ (s : List ℕ) {a b : List ℕ} {n : ℕ} (p : Put a 0 (listing s) b n)
       (rw (t.0, lt-leb (length (listing s)) (length a) over), t.1)
 
 -- a text that is answered to be whole has room
-pub whole_fits : (s : List ℕ) (room n : ℕ) → held_of (Whole n) ≡ held s room → n ≤ room
+pub whole_fits : (s : List ℕ) (room n : ℕ) → held_of (Ok n) ≡ held s room → n ≤ room
 unfolding held
 whole_fits s room n e =
     let long : n ≡ length (listing s) = ap (λ x. x.long) e in

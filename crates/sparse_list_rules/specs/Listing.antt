@@ -1,6 +1,6 @@
 -- What the lister prints for an input, how it stands in a lent buffer, and what the answer says of it.
 -- Assumes nothing.
-use Rattle.std.specs.Prelude.{◌≡◌, Bool, true, false, cond, List, [], ◌∷◌, ◌++◌, ℕ, ◌+◌, ◌≤◌, leb, ltb, length, take, drop}
+use Rattle.std.specs.Prelude.{◌≡◌, Bool, true, false, cond, List, [], ◌∷◌, ◌++◌, ℕ, ◌+◌, ◌≤◌, leb, ltb, length, take, drop, Result, Ok, Err}
 use Rattle.text_rules.specs.Input.{longest, partition, too_long}
 use Rattle.sparse_rules.specs.declared.Chunk.{Chunk}
 use Rattle.sparse_rules.specs.declared.Counts.{Counts}
@@ -9,8 +9,7 @@ use Rattle.sparse_rules.specs.Walk.{Finding}
 use Rattle.rules.specs.Answer.{refused, accepted}
 use Rattle.sparse_rules.specs.Counts.{counts_of}
 use Rattle.sparse_rules.specs.Judge.{judged}
-use Rattle.sparse_list_rules.specs.declared.Listed.{Listed}
-use Rattle.sparse_list_rules.specs.declared.Listed.TheVariants.{Whole, TooShort}
+use Rattle.sparse_list_rules.specs.declared.TooShort.{TooShort}
 use Rattle.sparse_list_rules.specs.Lines.{refused_line, header_line, chunk_line, last_line}
 
 -- "Each chunk, empty ones too, has a line"; the next chunk's first block comes after the blocks of this one
@@ -44,10 +43,10 @@ pub record Held : Type 0 where
   -- whether the buffer holds it whole
   pub whole : Bool
 
--- the lister's answer: `Whole` a text that the buffer holds whole, `TooShort` one that it does not, each with the text's length
-abbrev pub held_of : Listed → Held
-held_of (Whole n) = record { long = n; whole = true }
-held_of (TooShort n) = record { long = n; whole = false }
+-- the lister's answer: `Ok` a text that the buffer holds whole, `Err` one that it does not, each with the text's length
+abbrev pub held_of : Result ℕ TooShort → Held
+held_of (Ok n) = record { long = n; whole = true }
+held_of (Err e) = record { long = e.needs; whole = false }
 
 -- how the text of an input stands in a buffer with room for so many bytes
 unfoldable pub held : List ℕ → ℕ → Held

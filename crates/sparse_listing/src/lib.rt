@@ -4,7 +4,7 @@
 ghost use Rattle.std.specs.Prelude.{◌≡◌, length};
 ghost use Rattle.sparse_list_rules.specs.Listing.{held_of, held, output};
 
-use sparse_list_rules::Listed;
+use sparse_list_rules::{Listed, TooShort};
 use sparse_text::put_listing;
 
 // Puts the text of an input at the start of a buffer, as much of it as has room.
@@ -13,7 +13,7 @@ pub fn list(input: &[u8], out: &mut [u8]) -> Listed
 {
     let n = put_listing(out, input);
     if n <= out.len() {
-        return Listed::Whole(n);
+        return Ok(n);
     }
-    Listed::TooShort(n)
+    Err(TooShort { needs: n })
 }

@@ -4,10 +4,10 @@
 ghost use Rattle.std.specs.Prelude.{◌≡◌, [], length};
 ghost use Rattle.sparse_rules.specs.Answers as judge;
 ghost use Rattle.sparse_blocks_rules.specs.Blocks.{needed};
-ghost use Rattle.sparse_blocks_rules.specs.Pairs.{answer_of, image_of, same_geometry, pair_answer, refused_image};
+ghost use Rattle.sparse_blocks_rules.specs.Pairs.{tests_of, image_of, same_geometry, pair_answer, refused_image};
 
-use sparse_blocks_rules::Paired;
-use sparse_rules::{Refusal, Verdict};
+use sparse_blocks_rules::PairRefusal;
+use sparse_rules::Verdict;
 
 // An image judged as if the partition had room.
 fn judged(image: &[u8]) -> Verdict
@@ -26,27 +26,15 @@ fn same_geometry(first: &[u8], second: &[u8]) -> bool
     (a.block == b.block) & (a.total == b.total)
 }
 
-// The refusals of two images: the first's own, the second's own, then 17; the number 0 where they match.
-pub fn matched(first: &[u8], second: &[u8]) -> Paired
-    ensures answer { answer_of result ≡ pair_answer first.now second.now [] 0 }
+// The refusals of two images: the first's own, the second's own, then 17.
+pub fn matched(first: &[u8], second: &[u8]) -> Result<(), PairRefusal>
+    ensures answer { tests_of result ≡ pair_answer first.now second.now [] 0 }
     ensures image { image_of result ≡ refused_image first.now second.now }
 {
-    let one = judged(first);
-    if let Verdict::Refused(f) = one {
-        return Paired::Refused(1, f);
-    }
-    let other = judged(second);
-    if let Verdict::Refused(f) = other {
-        return Paired::Refused(2, f);
-    }
+    judged(first).map_err(PairRefusal::First)?;
+    judged(second).map_err(PairRefusal::Second)?;
     if same_geometry(first, second) {
-        return Paired::Done(0);
+        return Ok(());
     }
-    Paired::Refused(
-        0,
-        Refusal {
-            number: 17,
-            place: 0,
-        },
-    )
+    Err(PairRefusal::Geometry)
 }

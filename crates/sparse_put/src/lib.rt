@@ -1,22 +1,25 @@
 // The beginning of a chunk, put at its place of an output, and how long a chunk is. A part that does not fit whole changes
-// nothing. A chunk's kind is a number here: 0 for don't care, 1 raw, 2 + w fill with the word w.
+// nothing. A chunk of which nothing is stored is don't care.
 #![tactic(auto)]
 
 ghost use Rattle.std.specs.Prelude.{◌≡◌};
 ghost use Rattle.fields_rules.specs.Number.{placed};
 ghost use Rattle.sparse_write_rules.specs.Kinds.{fill};
-ghost use Rattle.sparse_write_rules.specs.Numbered.{kind_numbered};
+ghost use Rattle.sparse_write_rules.specs.KindOf.{kind_of};
 ghost use Rattle.sparse_write_rules.specs.Encode.{chunk_size, chunk_header};
 ghost use Rattle.sparse_write_rules.specs.Parts.{chunk_top};
 
+use sparse_write_rules::Stored;
+
 // The total size of a chunk of a kind over n bytes of blocks, its header of 12 included.
-pub fn chunk_size(kind: u64, n: u32) -> u64
-    ensures { result ≡ chunk_size (kind_numbered kind) n }
+pub fn chunk_size(kind: Option<Stored>, n: u32) -> u64
+    ensures { result ≡ chunk_size (kind_of kind) n }
 {
-    if kind == 0 {
-        return 12;
+    match kind {
+        None => 12,
+        Some(Stored::Raw) => 12 + n as u64,
+        Some(Stored::Fill(_)) => 16,
     }
-    if kind == 1 { 12 + n as u64 } else { 16 }
 }
 
 // A chunk header of 12 bytes: type, size in blocks, total size in bytes.
@@ -44,17 +47,13 @@ fn put_fill(out: &mut [u8], at: usize, word: u32, blocks: u32, total: u32)
 }
 
 // The beginning of a chunk of a kind, by its blocks and its total size: its header, and the word of a fill chunk.
-pub fn put_top(out: &mut [u8], at: usize, kind: u64, blocks: u32, total: u32)
-    ensures { out.new ≡ placed out.old at (chunk_top (kind_numbered kind) blocks total) }
+#[tactic(auto, using(sparse_write_rules::proofs::Putting::top_kept, sparse_write_rules::proofs::Putting::top_raw))]
+pub fn put_top(out: &mut [u8], at: usize, kind: Option<Stored>, blocks: u32, total: u32)
+    ensures { out.new ≡ placed out.old at (chunk_top (kind_of kind) blocks total) }
 {
-    if kind == 0 {
-        put_head(out, at, 0xCAC3, blocks, total);
-        return;
+    match kind {
+        None => put_head(out, at, 0xCAC3, blocks, total),
+        Some(Stored::Raw) => put_head(out, at, 0xCAC1, blocks, total),
+        Some(Stored::Fill(word)) => put_fill(out, at, word, blocks, total),
     }
-    if kind == 1 {
-        put_head(out, at, 0xCAC1, blocks, total);
-        return;
-    }
-    let word = (kind - 2) % 4294967296;
-    put_fill(out, at, word as u32, blocks, total);
 }

@@ -4,11 +4,11 @@
 ghost use Rattle.std.specs.Prelude.{◌≡◌, ◌+◌, length};
 ghost use Rattle.fields_rules.specs.Number.{number_at};
 ghost use Rattle.sparse_rules.specs.Chunks.{reading};
-ghost use Rattle.sparse_rules.specs.Answers.{reading_of, refusal_in};
+ghost use Rattle.sparse_rules.specs.Answers.{reading_of};
 
-pub use sparse_header::{block_right, bytes_of, header_refusal, read_header, sizes_right};
+pub use sparse_header::{block_right, bytes_of, checked_header, read_header, refusal, sizes_right};
 pub use sparse_kind::{kind_of, size_right};
-use sparse_rules::{Chunk, ChunkRead, Cursor, Header, Refusal};
+use sparse_rules::{Chunk, ChunkRead, Cursor, Header};
 
 // The four bytes so many past a place: a place past the largest usize is past the end too, and reads as 0.
 fn field(image: &[u8], at: usize, offset: usize) -> u32
@@ -22,17 +22,8 @@ fn field(image: &[u8], at: usize, offset: usize) -> u32
     0
 }
 
-// A refusal at a place of the image.
-fn refuse(number: u32, at: usize) -> ChunkRead
-    ensures { result ≡ ChunkRead.Refused (record { number = number; place = at }) }
-{
-    ChunkRead::Refused(Refusal {
-        number,
-        place: at as u64,
-    })
-}
-
-// The chunk at a cursor with the cursor after it, or the refusal with its place; at every header and cursor.
+// The chunk at a cursor with the cursor after it, or the refusal with its place; at every header and cursor, so the three
+// are no struct with an invariant, and callers read the cursor between two chunks.
 pub fn read_chunk(image: &[u8], header: Header, cursor: Cursor) -> ChunkRead
     ensures { reading_of result ≡ reading image.now (length image.now) header cursor }
 {
@@ -40,47 +31,33 @@ pub fn read_chunk(image: &[u8], header: Header, cursor: Cursor) -> ChunkRead
     let len = image.len();
     let head = header.head as usize;
     if len < at {
-        return refuse(7, at);
+        return Err(refusal(7, at));
     }
     if len - at < head {
-        return refuse(7, at);
+        return Err(refusal(7, at));
     }
     let kind = kind_of(fields_read::read16(image, at));
     let blocks = field(image, at, 4);
     let size = field(image, at, 8);
-    if size_right(header, kind, blocks, size) {
-        let bytes = size as usize;
-        if len - at < bytes {
-            return refuse(7, at);
-        }
-        let end = cursor.first as u64 + blocks as u64;
-        if (header.total as u64) < end {
-            return refuse(9, at);
-        }
-        return ChunkRead::Chunk(
-            Chunk {
-                kind,
-                blocks,
-                body: at + head,
-            },
-            Cursor {
-                at: at + bytes,
-                first: end as u32,
-            },
-        );
+    if !size_right(header, kind, blocks, size) {
+        return Err(refusal(8, at));
     }
-    refuse(8, at)
-}
-
-// The refusal of what was read, for a caller to hand on; its number is 0 where a chunk was read.
-pub fn refusal_of(r: ChunkRead) -> Refusal
-    ensures { result ≡ refusal_in (reading_of r) }
-{
-    match r {
-        ChunkRead::Refused(f) => f,
-        ChunkRead::Chunk(_, _) => Refusal {
-            number: 0,
-            place: 0,
-        },
+    let bytes = size as usize;
+    if len - at < bytes {
+        return Err(refusal(7, at));
     }
+    let end = cursor.first as u64 + blocks as u64;
+    if (header.total as u64) < end {
+        return Err(refusal(9, at));
+    }
+    let chunk = Chunk {
+        kind,
+        blocks,
+        body: at + head,
+    };
+    let next = Cursor {
+        at: at + bytes,
+        first: end as u32,
+    };
+    Ok((chunk, next))
 }

@@ -1,7 +1,8 @@
 -- Laws of the counts of blocks.
 -- Assumes nothing.
-use mathlib.Core.Path.{◌≡◌, refl, sym, ◌∙◌}
-use mathlib.Core.Bool.{Bool, cond}
+use mathlib.Core.Path.{◌≡◌, refl, sym, ap, ◌∙◌}
+use mathlib.Core.Logic.{◌⊎◌, inl, inr}
+use mathlib.Core.Bool.{Bool, true, false, cond}
 use mathlib.Core.List.{List, [], ◌∷◌, ◌++◌}
 use Prim.Native.Nat.{ℕ, ◌+◌, ◌^◌, ◌<◌}
 use native.Mathlib.Nat.{zero-add, add_assoc}
@@ -11,6 +12,16 @@ use Rattle.sparse_rules.specs.declared.Kind.TheVariants.{Raw, Fill, DontCare, Un
 use Rattle.sparse_rules.specs.declared.Chunk.{Chunk}
 use Rattle.sparse_rules.specs.declared.Counts.{Counts}
 use Rattle.sparse_rules.specs.Counts.{writes, is_dont_care, is_unknown, blocks_where, written, dont_care_of, unknown, counts_of, no_counts, counted_on}
+
+-- ---- the kinds that write, and those that do not
+
+pub writing : {k : Kind} → (k ≡ Raw) ⊎ (k ≡ Fill) → writes k ≡ true
+writing (inl e) = ap writes e
+writing (inr e) = ap writes e
+
+pub skipping : {k : Kind} → (k ≡ DontCare) ⊎ (k ≡ Unknown) → writes k ≡ false
+skipping (inl e) = ap writes e
+skipping (inr e) = ap writes e
 
 -- ---- the chunks of some kinds
 

@@ -38,19 +38,16 @@ pub struct Chunk {
     pub body: usize,
 }
 
-// A refusal: its number, and its place in the image.
+// A refusal: its number, and its place in the image. The number is no closed enum: the state of a pass, any bytes that its
+// caller kept, may hold any number, which the pass then answers.
 #[derive(Clone, Copy)]
 pub struct Refusal {
     pub number: u32,
     pub place: u64,
 }
 
-// What the chunk reader answers.
-#[derive(Clone, Copy)]
-pub enum ChunkRead {
-    Chunk(Chunk, Cursor),
-    Refused(Refusal),
-}
+// What the chunk reader answers: the chunk and the cursor after it, or a refusal.
+pub type ChunkRead = Result<(Chunk, Cursor), Refusal>;
 
 // The blocks that an accepted image counts: those of raw and fill chunks, of don't care chunks, and of chunks whose type is
 // not known.
@@ -61,9 +58,5 @@ pub struct Counts {
     pub unknown: u32,
 }
 
-// What the judge answers: accepted with its counts of blocks, or refused.
-#[derive(Clone, Copy)]
-pub enum Verdict {
-    Accepted(Counts),
-    Refused(Refusal),
-}
+// What the judge answers: the counts of blocks of an accepted image, or a refusal.
+pub type Verdict = Result<Counts, Refusal>;

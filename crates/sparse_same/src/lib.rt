@@ -2,22 +2,10 @@
 // 4 exactly where each is as the one 4 before it.
 #![tactic(auto)]
 
-ghost use Rattle.std.specs.Prelude.{◌≡◌, ◌-◌, length};
-ghost use Rattle.sparse_blocks_rules.specs.Same.{alike, same_bytes_at, repeats_word, is_raw, same_block};
+ghost use Rattle.std.specs.Prelude.{◌≡◌};
+ghost use Rattle.sparse_blocks_rules.specs.Same.{same_bytes_at, repeats_word, is_raw, same_block};
 
 use sparse_rules::{Chunk, Kind};
-
-// Whether two slices of one length hold the same bytes. No branch depends on a byte, so many are compared at a time.
-fn equal(first: &[u8], second: &[u8]) -> bool
-    requires { length second.now ≡ length first.now }
-    ensures { result ≡ alike first.now second.now }
-{
-    let mut same = true;
-    for i in 0..first.len() {
-        same = same & (first[i] == second[i]);
-    }
-    same
-}
 
 // Whether two images have n bytes each from a place on, and these are the same.
 fn same_bytes(first: &[u8], i: usize, second: &[u8], j: usize, n: usize) -> bool
@@ -25,17 +13,10 @@ fn same_bytes(first: &[u8], i: usize, second: &[u8], j: usize, n: usize) -> bool
 {
     if fields_read::within(first.len(), i, n) {
         if fields_read::within(second.len(), j, n) {
-            return equal(&first[i..i + n], &second[j..j + n]);
+            return &first[i..i + n] == &second[j..j + n];
         }
     }
     false
-}
-
-// How many bytes of a block come after its first word.
-fn after_word(block: usize) -> usize
-    ensures { result ≡ block - 4 }
-{
-    if block < 4 { 0 } else { block - 4 }
 }
 
 // Whether the bytes of a block are 4 bytes of another image repeated.
@@ -43,7 +24,7 @@ fn repeats_word(raw: &[u8], i: usize, fill: &[u8], j: usize, block: usize) -> bo
     ensures { result ≡ repeats_word raw.now i fill.now j block }
 {
     if same_bytes(raw, i, fill, j, 4) {
-        return same_bytes(raw, i + 4, raw, i, after_word(block));
+        return same_bytes(raw, i + 4, raw, i, block.saturating_sub(4));
     }
     false
 }
@@ -52,12 +33,7 @@ fn repeats_word(raw: &[u8], i: usize, fill: &[u8], j: usize, block: usize) -> bo
 pub fn is_raw(kind: Kind) -> bool
     ensures { result ≡ is_raw kind }
 {
-    match kind {
-        Kind::Raw => true,
-        Kind::Fill => false,
-        Kind::DontCare => false,
-        Kind::Unknown => false,
-    }
+    matches!(kind, Kind::Raw)
 }
 
 // Whether the first blocks of two chunks that write, of a block size, hold the same bytes.

@@ -3,6 +3,7 @@
 use mathlib.Core.Path.{◌≡◌, refl, sym, ap, ◌∙◌}
 use mathlib.Core.Bool.{Bool, true, false, cond}
 use mathlib.Core.List.{List, ◌∷◌}
+use Rattle.std.specs.Prelude.{Option}
 use Prim.Native.Nat.{ℕ, zero, suc, ◌+◌, ◌-◌, ◌*◌, ◌/◌, ◌%◌, ◌≤◌, ◌<◌}
 use native.Mathlib.Nat.{not-suc-le-zero, suc-mul, sub-zero, mul-le-mul_right}
 use native.Mathlib.Numerals.{sub-one, add-one}
@@ -12,7 +13,8 @@ use Rattle.sparse_write_rules.specs.Kinds.{BlockKind, kept, same_kind, all_equal
 use Rattle.sparse_write_rules.specs.Runs.{in_front, runs}
 use Rattle.sparse_write_rules.proofs.KindSteps.{equal_none, equal_next, equal_differs}
 use Rattle.sparse_write_rules.proofs.Runs.{split_blocks, tells_kinds, of, apart, differ, front_same, front_other}
-use Rattle.sparse_write_rules.specs.Numbered.{kind_numbered}
+use Rattle.sparse_write_rules.specs.declared.Stored.{Stored}
+use Rattle.sparse_write_rules.specs.KindOf.{kind_of}
 use Rattle.sparse_scan.specs.Scan.{kinds_at, runs_at, first_kind, leading, following, run_blocks, after_run}
 
 -- ---- the words of a block
@@ -85,50 +87,49 @@ module _ (f : ℕ → BlockKind) (b : ℕ) (kind : BlockKind) where
   following_off zero at h d = absurd (not-suc-le-zero h)
   following_off (suc n) at h d = rw (differ same_kind tells_kinds (f at) kind d)
 
--- m blocks of a kind lie behind, up to byte at, and on those left hangs what is found
-pub record Scanned (f : ℕ → BlockKind) (b n from : ℕ) (kind : BlockKind) (m at : ℕ) : Type 0 where
-  pub stands : at ≡ from + m * b
-  pub fits : m ≤ n
-  pub counts : leading f b kind n from ≡ m + leading f b kind (n - m) at
-  pub follows : following f b kind n from ≡ following f b kind (n - m) at
+-- m blocks of a kind lie behind, and on those left hangs what is found
+pub record Scanned (f : ℕ → BlockKind) (b n from : ℕ) (kind : BlockKind) (m : ℕ) : Type 0 where
+  pub counts : leading f b kind n from ≡ m + leading f b kind (n - m) (from + m * b)
+  pub follows : following f b kind n from ≡ following f b kind (n - m) (from + m * b)
 
 -- at first none
-pub scan_start : (f : ℕ → BlockKind) (b n from : ℕ) (kind : BlockKind) → Scanned f b n from kind 0 from
+pub scan_start : (f : ℕ → BlockKind) (b n from : ℕ) (kind : BlockKind) → Scanned f b n from kind 0
 scan_start f b n from kind =
-    record { stands = omega arith; fits = omega arith; counts = rw sub-zero (omega arith); follows = rw sub-zero }
+    let z : from + 0 * b ≡ from = omega arith in
+    record { counts = rw (z, sub-zero) (omega arith); follows = rw (z, sub-zero) }
 
-module _ {f : ℕ → BlockKind} {b n from : ℕ} {kind : BlockKind} {m at : ℕ} (r : Scanned f b n from kind m at) where
-  -- the next block lies within
-  pub scan_room : m < n → at + b ≤ from + n * b
-  scan_room h =
-      let e : suc m * b ≤ n * b = mul-le-mul_right b h in
-      omega (arith, r.stands, suc-mul m b)
+-- the next block lies within
+pub scan_room : (b n from m : ℕ) → m < n → from + m * b + b ≤ from + n * b
+scan_room b n from m h =
+    let e : suc m * b ≤ n * b = mul-le-mul_right b h in
+    omega (arith, suc-mul m b)
 
+module _ {f : ℕ → BlockKind} {b n from : ℕ} {kind : BlockKind} {m : ℕ} (r : Scanned f b n from kind m) where
   -- a block of the kind is passed
-  pub scan_on : (j : ℕ) → j ≡ m → m < n → f at ≡ kind → Scanned f b n from kind (j + 1) (at + b)
-  scan_on j i h e =
-      let q : n - m - 1 ≡ n - (j + 1) = omega arith in
+  pub scan_on : m < n → f (from + m * b) ≡ kind → Scanned f b n from kind (m + 1)
+  scan_on h e =
+      let at : ℕ = from + m * b in
+      let q : n - m - 1 ≡ n - (m + 1) = omega arith in
+      let p : at + b ≡ from + (m + 1) * b = omega (arith, ap (λ (k : ℕ). k * b) (add-one m), suc-mul m b) in
       record {
-        stands = omega (arith, r.stands, suc-mul m b, ap (λ (k : ℕ). k * b) i, ap (λ (k : ℕ). k * b) (add-one j), suc-mul j b);
-        fits = omega arith;
-        counts = omega (arith, r.counts, rw q at (leading_on f b kind (n - m) at (omega arith) e));
-        follows = r.follows ∙ rw q at (following_on f b kind (n - m) at (omega arith) e);
+        counts = omega (arith, r.counts, rw (q, p) at (leading_on f b kind (n - m) at (omega arith) e));
+        follows = r.follows ∙ rw (q, p) at (following_on f b kind (n - m) at (omega arith) e);
       }
 
   -- at one that is not, the scan stops
-  pub scan_stop : {k : BlockKind} (j : ℕ) → j ≡ m → m < n → f at ≡ k → (kind ≡ k → ⊥) → (j ≡ leading f b kind n from) × (k ≡ following f b kind n from)
-  scan_stop j i h e d =
-      let g : f at ≡ kind → ⊥ = λ q. d (sym q ∙ e) in (
-        omega (arith, r.counts, leading_off f b kind (n - m) at g),
-        sym e ∙ sym (r.follows ∙ following_off f b kind (n - m) at (omega arith) g),
+  pub scan_stop : {k : BlockKind} → m < n → f (from + m * b) ≡ k → (kind ≡ k → ⊥) → (m ≡ leading f b kind n from) × (k ≡ following f b kind n from)
+  scan_stop h e d =
+      let g : f (from + m * b) ≡ kind → ⊥ = λ q. d (sym q ∙ e) in (
+        omega (arith, r.counts, leading_off f b kind (n - m) (from + m * b) g),
+        sym e ∙ sym (r.follows ∙ following_off f b kind (n - m) (from + m * b) (omega arith) g),
       )
 
   -- and at the end
-  pub scan_end : n ≤ m → (m ≡ leading f b kind n from) × (kept ≡ following f b kind n from)
+  pub scan_end : m ≡ n → (n ≡ leading f b kind n from) × (kept ≡ following f b kind n from)
   unfolding leading following
   scan_end h =
       let z : n - m ≡ 0 = omega arith in
-      let l : leading f b kind (n - m) at ≡ 0 = rw z in
+      let l : leading f b kind (n - m) (from + m * b) ≡ 0 = rw z in
       (omega (arith, r.counts), sym (r.follows ∙ rw z))
 
 -- ---- the first run
@@ -138,7 +139,7 @@ pub record Ends (f : ℕ → BlockKind) (b : ℕ) (kind : BlockKind) (n at m : �
   pub runs_on : in_front same_kind kind (runs_at f b n at) ≡ of kind (suc m) ∷ runs_at f b (n - m) (at + m * b)
   pub fits : m ≤ n
   pub alike : (j : ℕ) → j < m → f (at + j * b) ≡ kind
-  pub goes : 0 < n - m → next ≡ f (at + m * b)
+  pub goes : next ≡ first_kind f (n - m) (at + m * b)
 
 -- a block before others: what is said of those after it holds from it on
 next_alike : (f : ℕ → BlockKind) (b : ℕ) (kind : BlockKind) (m at : ℕ) → f at ≡ kind → ((j : ℕ) → j < m → f (at + b + j * b) ≡ kind) → (j : ℕ) → j < suc m → f (at + j * b) ≡ kind
@@ -148,7 +149,7 @@ next_alike f b kind m at e h (suc j) l = let z : at + suc j * b ≡ at + b + j *
 run_on : (f : ℕ → BlockKind) (b : ℕ) (kind : BlockKind) (n at : ℕ) → Ends f b kind n at (leading f b kind n at) (following f b kind n at)
 unfolding leading following runs kinds_at
 run_on f b kind zero at =
-    record { runs_on = refl; fits = omega arith; alike = λ j l. absurd (omega arith); goes = λ h. absurd (omega arith) }
+    record { runs_on = refl; fits = omega arith; alike = λ j l. absurd (omega arith); goes = refl }
 run_on f b kind (suc n) at =
     go (leading f b kind n (at + b)) (following f b kind n (at + b)) (run_on f b kind n (at + b)) (same_kind (f at) kind) refl
   where
@@ -162,7 +163,7 @@ run_on f b kind (suc n) at =
           runs_on = ap (λ (x : BlockKind). in_front same_kind kind (in_front same_kind x (runs_at f b n (at + b)))) k ∙ ap (in_front same_kind kind) i.runs_on ∙ front_same same_kind tells_kinds kind (suc m) _ ∙ rw (q, p);
           fits = omega (arith, i.fits);
           alike = next_alike f b kind m at k i.alike;
-          goes = λ h. rw p (i.goes (omega arith));
+          goes = rw (q, p) i.goes;
         }
     go m next i false e =
         let z : at + 0 * b ≡ at = omega arith in
@@ -171,7 +172,7 @@ run_on f b kind (suc n) at =
           runs_on = front_other same_kind tells_kinds kind (f at) (runs_at f b n (at + b)) d ∙ rw (z, sub-zero);
           fits = omega arith;
           alike = λ j l. absurd (omega arith);
-          goes = λ h. rw z;
+          goes = rw (z, sub-zero);
         }
 
 -- where there is no block, nothing is found
@@ -198,10 +199,10 @@ pub first_follows : (f : ℕ → BlockKind) (b : ℕ) (kind : BlockKind) (n at :
 first_follows f b kind zero at h d g = absurd (not-suc-le-zero h)
 first_follows f b kind (suc n) at h d g = g ∙ following_off f b kind (suc n) at h d
 
--- the first run of n blocks: its kind's number, how many blocks and bytes it has, and the number of the kind after it
-pub record FirstRun (f : ℕ → BlockKind) (b n at kind many len next : ℕ) : Type 0 where
+-- the first run of n blocks: what is stored of its blocks, how many blocks and bytes it has, and what is stored of the one after it
+pub record FirstRun (f : ℕ → BlockKind) (b n at : ℕ) (kind : Option Stored) (many len : ℕ) (next : Option Stored) : Type 0 where
   -- it stands before the runs of the blocks after it
-  pub first : runs_at f b n at ≡ of (kind_numbered kind) many ∷ runs_at f b (n - many) (at + len)
+  pub first : runs_at f b n at ≡ of (kind_of kind) many ∷ runs_at f b (n - many) (at + len)
   -- it has a block, and no more than there are
   pub some : 0 < many
   pub fits : many ≤ n
@@ -210,18 +211,18 @@ pub record FirstRun (f : ℕ → BlockKind) (b n at kind many len next : ℕ) : 
   -- and with those of the blocks after it they are all
   pub rest : len + (n - many) * b ≡ n * b
   -- each of its blocks is of its kind
-  pub alike : (j : ℕ) → j < many → f (at + j * b) ≡ kind_numbered kind
-  -- and the one after it, where one is left, is of the next
-  pub goes : 0 < n - many → kind_numbered next ≡ f (at + len)
+  pub alike : (j : ℕ) → j < many → f (at + j * b) ≡ kind_of kind
+  -- and the one after it is of the next; kept where none is left
+  pub goes : kind_of next ≡ first_kind f (n - many) (at + len)
 
 -- what is found from a block of the first run's kind on is the first run
-pub first_is : (f : ℕ → BlockKind) (b n at kind : ℕ) {m len k : ℕ} → 0 < n → kind_numbered kind ≡ f at → m ≡ run_blocks f b (kind_numbered kind) n at
-    → len ≡ m * b → kind_numbered k ≡ after_run f b (kind_numbered kind) n at → FirstRun f b n at kind m len k
+pub first_is : (f : ℕ → BlockKind) (b n at : ℕ) (kind : Option Stored) {m len : ℕ} {k : Option Stored} → 0 < n → kind_of kind ≡ f at → m ≡ run_blocks f b (kind_of kind) n at
+    → len ≡ m * b → kind_of k ≡ after_run f b (kind_of kind) n at → FirstRun f b n at kind m len k
 unfolding kinds_at runs
 first_is f b zero at kind h e l w g = absurd (not-suc-le-zero h)
 first_is f b (suc n) at kind {m} {len} {k} h e l w g =
-    let j : ℕ = leading f b (kind_numbered kind) n (at + b) in
-    let r : Ends f b (kind_numbered kind) n (at + b) j (kind_numbered k) = rw (← g) at (run_on f b (kind_numbered kind) n (at + b)) in
+    let j : ℕ = leading f b (kind_of kind) n (at + b) in
+    let r : Ends f b (kind_of kind) n (at + b) j (kind_of k) = rw (← g) at (run_on f b (kind_of kind) n (at + b)) in
     let q : suc n - suc j ≡ n - j = omega arith in
     let p : at + len ≡ at + b + j * b = omega (arith, w, suc-mul j b, ap (λ (x : ℕ). x * b) l) in
     record {
@@ -230,6 +231,6 @@ first_is f b (suc n) at kind {m} {len} {k} h e l w g =
       fits = omega (arith, r.fits);
       long = w;
       rest = rw w (split_blocks (suc n) m b (omega (arith, r.fits)));
-      alike = λ i i<. next_alike f b (kind_numbered kind) j at (sym e) r.alike i (omega arith);
-      goes = λ z. r.goes (omega arith) ∙ rw p;
+      alike = λ i i<. next_alike f b (kind_of kind) j at (sym e) r.alike i (omega arith);
+      goes = r.goes ∙ rw (l, q, p);
     }

@@ -13,23 +13,12 @@ use Rattle.rules.specs.Answer.{accepted, refused}
 use Rattle.sparse_rules.specs.Judge.{judged}
 use Rattle.sparse_rules.specs.Counts.{written}
 use Rattle.sparse_rules.specs.Answers.{answer}
-use Rattle.sparse_rules.specs.declared.Refusal.{Refusal}
 use Rattle.sparse_rules.specs.declared.Counts.{Counts}
-use Rattle.sparse_store_rules.specs.declared.Stored.{Stored}
-use Rattle.sparse_store_rules.specs.declared.Stored.TheVariants.{Blocks, Refused}
 use Rattle.sparse_store_rules.specs.Store.{store, store_up_to}
 use Rattle.sparse_store_rules.specs.Answers.{cut_answer}
 use Rattle.sparse_rules.proofs.Image.{Counted, answer_accepted, answer_refused}
 use Rattle.sparse_store_rules.proofs.Cut.{limit_whole, refused_stores_nothing, refused_cut_nothing, cut_accepted, cut_refused}
 use Rattle.sparse_store.specs.Storable.{Storable}
-
--- what an answer is known to be says what the answer says
-pub says_same : {A B : Type 0} (says : A → B) {r known : A} {b : B} → r ≡ known → says r ≡ b → says known ≡ b
-says_same says e q = sym (ap says e) ∙ q
-
--- blocks that are stored are no refusal
-pub stored_is_no_refusal : {r : Stored} {n : ℕ} {f : Refusal} → r ≡ Blocks n → r ≡ Refused f → ⊥
-stored_is_no_refusal e q = let z : ◌≡◌ {A = ℕ} 0 1 = cc in omega arith
 
 module _ (s p : List ℕ) where
   module _ (c : Counts) (e : accepted c ≡ answer s (length s) (length p)) where

@@ -1,20 +1,20 @@
 // Storing a sparse image on a lent partition: whole, or up to a limit of stored blocks.
 #![tactic(auto)]
 
-ghost use Rattle.std.specs.Prelude.{◌≡◌, length};
+ghost use Rattle.std.specs.Prelude.{◌≡◌, length, Ok};
 ghost use Rattle.sparse_rules.specs.Answers.{answer, answer_of};
 ghost use Rattle.sparse_store_rules.specs.Store.{store, store_up_to};
 ghost use Rattle.sparse_store_rules.specs.Answers.{cut_answer, cut_answer_of};
 ghost use Rattle.sparse_store.specs.Storable.{Storable};
 
-use sparse_rules::{ChunkRead, Cursor, Verdict};
-use sparse_store_chunk::{least, store_chunk, taken};
+use sparse_rules::{Cursor, Verdict};
+use sparse_store_chunk::{store_chunk, taken};
 use sparse_store_rules::Stored;
 
 // The first blocks of an accepted image, in order, so many as it is known to have; answers how many.
 fn store_blocks(image: &[u8], partition: &mut [u8], count: u64) -> Stored
     requires { Storable image.now (length partition.old) count }
-    ensures answer { result ≡ Stored.Blocks count }
+    ensures answer { result ≡ Ok count }
     ensures contents { partition.new ≡ store_up_to count image.now partition.old }
 {
     let header = sparse_read::read_header(image);
@@ -24,11 +24,9 @@ fn store_blocks(image: &[u8], partition: &mut [u8], count: u64) -> Stored
         first: 0,
     };
     let mut left = count;
+    // Kept by hand: it counts stored blocks, not chunks, and ends with the last of them.
     while 0 < left {
-        let r = sparse_read::read_chunk(image, header, cursor);
-        let ChunkRead::Chunk(chunk, next) = r else {
-            return Stored::Refused(sparse_read::refusal_of(r));
-        };
+        let (chunk, next) = sparse_read::read_chunk(image, header, cursor)?;
         let take = taken(chunk, left);
         let from = cursor.first as usize * block;
         let bytes = take as usize * block;
@@ -36,7 +34,7 @@ fn store_blocks(image: &[u8], partition: &mut [u8], count: u64) -> Stored
         cursor = next;
         store_chunk(image, partition, chunk, from, bytes);
     }
-    Stored::Blocks(count)
+    Ok(count)
 }
 
 // The cut form: judges the whole image, then stores its first blocks, in order, up to the limit or
@@ -45,14 +43,9 @@ pub fn store_limited(image: &[u8], partition: &mut [u8], limit: u64) -> Stored
     ensures answer { cut_answer_of result ≡ cut_answer limit image.now (length partition.old) }
     ensures contents { partition.new ≡ store_up_to limit image.now partition.old }
 {
-    let verdict = sparse_judge::judge(image, partition.len() as u64);
-    match verdict {
-        Verdict::Accepted(counts) => {
-            let count = least(limit, counts.written as u64);
-            store_blocks(image, partition, count)
-        }
-        Verdict::Refused(f) => Stored::Refused(f),
-    }
+    let counts = sparse_judge::judge(image, partition.len() as u64)?;
+    let count = limit.min(counts.written as u64);
+    store_blocks(image, partition, count)
 }
 
 // The plain store: the cut form with a limit of all blocks that the image writes; answers as the
@@ -61,13 +54,7 @@ pub fn store(image: &[u8], partition: &mut [u8]) -> Verdict
     ensures answer { answer_of result ≡ answer image.now (length image.now) (length partition.old) }
     ensures contents { partition.new ≡ store image.now partition.old }
 {
-    let found = sparse_judge::judge(image, partition.len() as u64);
-    let Verdict::Accepted(counts) = found else {
-        return found;
-    };
-    let stored = store_blocks(image, partition, counts.written as u64);
-    match stored {
-        Stored::Blocks(_) => found,
-        Stored::Refused(f) => Verdict::Refused(f),
-    }
+    let found = sparse_judge::judge(image, partition.len() as u64)?;
+    store_blocks(image, partition, found.written as u64)?;
+    Ok(found)
 }

@@ -10,23 +10,13 @@ ghost use Rattle.sparse_store_rules.specs.Store.{laid};
 use sparse_rules::{Chunk, Kind};
 use sparse_store_bytes::{put_fill, put_raw};
 
-// The lesser of two counts.
-pub fn least(a: u64, b: u64) -> u64
-    ensures { result ≡ min a b }
-{
-    if a <= b { a } else { b }
-}
-
 // How many blocks of a chunk are stored, where so many are still to be: none of a chunk that is skipped.
 pub fn taken(chunk: Chunk, left: u64) -> u64
     ensures { result ≡ min left (cond (writes chunk.kind) chunk.blocks 0) }
 {
-    let kind = chunk.kind;
-    match kind {
-        Kind::Raw => least(left, chunk.blocks as u64),
-        Kind::Fill => least(left, chunk.blocks as u64),
-        Kind::DontCare => 0,
-        Kind::Unknown => 0,
+    match chunk.kind {
+        Kind::Raw | Kind::Fill => left.min(chunk.blocks as u64),
+        Kind::DontCare | Kind::Unknown => 0,
     }
 }
 
@@ -38,13 +28,10 @@ pub fn store_chunk(image: &[u8], partition: &mut [u8], chunk: Chunk, from: usize
     if size < from {
         return;
     }
-    let end = from + least(bytes as u64, (size - from) as u64) as usize;
-    let body = chunk.body;
-    let kind = chunk.kind;
-    match kind {
-        Kind::Raw => put_raw(&mut partition[from..end], image, body),
-        Kind::Fill => put_fill(&mut partition[from..end], image, body),
-        Kind::DontCare => {}
-        Kind::Unknown => {}
+    let end = from + bytes.min(size - from);
+    match chunk.kind {
+        Kind::Raw => put_raw(&mut partition[from..end], image, chunk.body),
+        Kind::Fill => put_fill(&mut partition[from..end], image, chunk.body),
+        Kind::DontCare | Kind::Unknown => {}
     }
 }

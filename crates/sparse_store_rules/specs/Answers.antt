@@ -1,12 +1,12 @@
 -- What the cut form answers: for each case document 01's number, place and count.
 -- Assumes nothing.
-use Rattle.std.specs.Prelude.{List, ℕ, min, length}
-use Rattle.rules.specs.Answer.{Answer, accepted, refused, onward}
+use Rattle.std.specs.Prelude.{List, ℕ, min, length, Result}
+use Rattle.rules.specs.Answer.{Answer, accepted, onward}
+use Rattle.sparse_rules.specs.declared.Refusal.{Refusal}
+use Rattle.sparse_rules.specs.Answers.{answer_of}
 use Rattle.sparse_rules.specs.Walk.{Finding}
 use Rattle.sparse_rules.specs.Counts.{written}
 use Rattle.sparse_rules.specs.Judge.{judged}
-use Rattle.sparse_store_rules.specs.declared.Stored.{Stored}
-use Rattle.sparse_store_rules.specs.declared.Stored.TheVariants.{Blocks, Refused}
 
 -- the answer that a finding asks for: "up to the limit or the image's number of written blocks, the lesser"
 unfoldable pub cut_answer_for : ℕ → Finding → Answer ℕ
@@ -17,6 +17,5 @@ unfoldable pub cut_answer : ℕ → List ℕ → ℕ → Answer ℕ
 cut_answer limit s room = cut_answer_for limit (judged s (length s) room)
 
 -- the cut form's answer: how many blocks are stored, or a refusal's number and place
-abbrev pub cut_answer_of : Stored → Answer ℕ
-cut_answer_of (Blocks n) = accepted n
-cut_answer_of (Refused f) = refused f.number f.place
+abbrev pub cut_answer_of : Result ℕ Refusal → Answer ℕ
+cut_answer_of r = answer_of r

@@ -4,8 +4,4 @@
 use sparse_rules::Refusal;
 
 // What the cut form answers: how many blocks it stored, or the judge's refusal.
-#[derive(Clone, Copy)]
-pub enum Stored {
-    Blocks(u64),
-    Refused(Refusal),
-}
+pub type Stored = Result<u64, Refusal>;

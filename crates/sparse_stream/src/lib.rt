@@ -107,11 +107,9 @@ fn verdict(x: Pass) -> Verdict
     ensures { answer_of result ≡ answer_now x }
 {
     if 0 < x.refusal.number {
-        let refusal = x.refusal;
-        return Verdict::Refused(refusal);
+        return Err(x.refusal);
     }
-    let counts = x.walk.counts;
-    Verdict::Accepted(counts)
+    Ok(x.walk.counts)
 }
 
 // The state of a pass that is finished.

@@ -11,52 +11,44 @@ use sparse_rules::{Counts, Cursor, Refusal};
 use sparse_stream_rules::{Come, Kept, Pass, Told, Walk};
 
 // The bytes of what a state was told, of its refusal and of what has come, and zeros for the rest.
-fn put_start(length: usize, room: u64, number: u32, place: u64, come: usize, sum: u32) -> [u8; 112]
-    ensures { (result ≡ sets (replicate 112 0) 0 (packed (start_numbers length room number place come sum)))
-        × AllFit (start_numbers length room number place come sum) }
+fn put_start(told: Told, refusal: Refusal, come: Come) -> [u8; 112]
+    ensures { (result ≡ sets (replicate 112 0) 0 (packed (start_numbers told.length told.room refusal.number refusal.place come.bytes come.sum)))
+        × AllFit (start_numbers told.length told.room refusal.number refusal.place come.bytes come.sum) }
 {
     let mut b = [0u8; 112];
-    fields_write::write64(&mut b, 0, length as u64);
-    fields_write::write64(&mut b, 8, room);
-    fields_write::write32(&mut b, 16, number);
-    fields_write::write64(&mut b, 20, place);
-    fields_write::write64(&mut b, 28, come as u64);
-    fields_write::write32(&mut b, 36, sum);
+    fields_write::write64(&mut b, 0, told.length as u64);
+    fields_write::write64(&mut b, 8, told.room);
+    fields_write::write32(&mut b, 16, refusal.number);
+    fields_write::write64(&mut b, 20, refusal.place);
+    fields_write::write64(&mut b, 28, come.bytes as u64);
+    fields_write::write32(&mut b, 36, come.sum);
     b
 }
 
 // The bytes b with those of a walk in their place.
-fn put_walk(
-    b: [u8; 112],
-    at: usize,
-    first: u32,
-    left: u32,
-    written: u32,
-    dont_care: u32,
-    unknown: u32,
-) -> [u8; 112]
-    ensures { (result ≡ sets b 40 (packed (walk_numbers at first left written dont_care unknown)))
-        × AllFit (walk_numbers at first left written dont_care unknown) }
+fn put_walk(b: [u8; 112], walk: Walk) -> [u8; 112]
+    ensures { (result ≡ sets b 40 (packed (walk_numbers walk.next.at walk.next.first walk.left walk.counts.written walk.counts.dont_care walk.counts.unknown)))
+        × AllFit (walk_numbers walk.next.at walk.next.first walk.left walk.counts.written walk.counts.dont_care walk.counts.unknown) }
 {
     let mut n = b;
-    fields_write::write64(&mut n, 40, at as u64);
-    fields_write::write32(&mut n, 48, first);
-    fields_write::write32(&mut n, 52, left);
-    fields_write::write32(&mut n, 56, written);
-    fields_write::write32(&mut n, 60, dont_care);
-    fields_write::write32(&mut n, 64, unknown);
+    fields_write::write64(&mut n, 40, walk.next.at as u64);
+    fields_write::write32(&mut n, 48, walk.next.first);
+    fields_write::write32(&mut n, 52, walk.left);
+    fields_write::write32(&mut n, 56, walk.counts.written);
+    fields_write::write32(&mut n, 60, walk.counts.dont_care);
+    fields_write::write32(&mut n, 64, walk.counts.unknown);
     n
 }
 
 // The bytes b with those that are kept in their place, the last.
-fn put_kept(b: [u8; 112], file: [u8; 28], chunk: [u8; 12], word: [u8; 4]) -> [u8; 112]
-    ensures { (result ≡ take 68 b ++ (file ++ (chunk ++ word)))
-        × (length file ≡ 28) × (length chunk ≡ 12) × (length word ≡ 4) }
+fn put_kept(b: [u8; 112], kept: Kept) -> [u8; 112]
+    ensures { (result ≡ take 68 b ++ (kept.file ++ (kept.chunk ++ kept.word)))
+        × (length kept.file ≡ 28) × (length kept.chunk ≡ 12) × (length kept.word ≡ 4) }
 {
     let mut n = b;
-    fields_write::copy(&mut n, 68, &file);
-    fields_write::copy(&mut n, 96, &chunk);
-    fields_write::copy(&mut n, 108, &word);
+    fields_write::copy(&mut n, 68, &kept.file);
+    fields_write::copy(&mut n, 96, &kept.chunk);
+    fields_write::copy(&mut n, 108, &kept.word);
     n
 }
 
@@ -64,28 +56,9 @@ fn put_kept(b: [u8; 112], file: [u8; 28], chunk: [u8; 12], word: [u8; 4]) -> [u8
 pub fn pass_bytes(x: Pass) -> [u8; 112]
     ensures { (result ≡ pass_bytes x) × (pass_of result ≡ x) }
 {
-    let start = put_start(
-        x.told.length,
-        x.told.room,
-        x.refusal.number,
-        x.refusal.place,
-        x.come.bytes,
-        x.come.sum,
-    );
-    let walk = x.walk;
-    let numbers = put_walk(
-        start,
-        walk.next.at,
-        walk.next.first,
-        walk.left,
-        walk.counts.written,
-        walk.counts.dont_care,
-        walk.counts.unknown,
-    );
-    let file = x.kept.file;
-    let chunk = x.kept.chunk;
-    let word = x.kept.word;
-    put_kept(numbers, file, chunk, word)
+    let start = put_start(x.told, x.refusal, x.come);
+    let numbers = put_walk(start, x.walk);
+    put_kept(numbers, x.kept)
 }
 
 // The bytes that are kept.

@@ -39,11 +39,11 @@ word_whole x bs = keeping x (record { file = x.kept.file; chunk = x.kept.chunk; 
 abbrev pub word_taken : Pass → List ℕ → Pass
 word_taken x bs = moved (word_whole x bs) 4 (fill_sum true (word_whole x bs))
 
--- a turn takes n bytes of a piece from place i on
-pub record Turn (x : Pass) (piece : List ℕ) (i n : ℕ) : Type 0 where
+-- a turn takes the bytes of a stretch
+pub record Turn (x : Pass) (bs : List ℕ) : Type 0 where
   -- the state takes bytes
   pub free : stuck x ≡ false
   -- there are some
-  pub some : i < length piece
-  -- and the turn takes so many of them
-  pub size : n ≡ stretch x (length piece - i)
+  pub some : 0 < length bs
+  -- and they are no more than go together
+  pub size : length bs ≡ stretch x (length bs)

@@ -1,10 +1,10 @@
 // The bytes of a chunk's data: counted in the checksum, those of a fill word kept until it is whole.
-ghost use Rattle.std.specs.Prelude.{◌≡◌, ◌+◌, ◌≤◌, ◌<◌, length, take, drop};
+ghost use Rattle.std.specs.Prelude.{◌≡◌, ◌+◌, ◌≤◌, ◌<◌, length};
 ghost use Rattle.sparse_stream_rules.specs.State.{head_of, gap, moved};
 ghost use Rattle.sparse_stream_rules.specs.Steps.{sum_on, word_kept, worded};
 ghost use Rattle.sparse_stream_feed.specs.Stretch.{word_taken};
 
-use sparse_stream_rules::{Come, Pass};
+use sparse_stream_rules::{Come, Kept, Pass};
 use sparse_stream_sum::{sum_fill, sum_raw};
 
 // The fill word with one byte more.
@@ -15,9 +15,7 @@ pub(crate) fn keep_word(x: Pass, b: u8) -> Pass
     let i = 4 - (x.walk.next.at - x.come.bytes);
     let mut kept = x.kept;
     kept.word[i] = b;
-    let mut y = x;
-    y.kept = kept;
-    y
+    Pass { kept, ..x }
 }
 
 // A state that has taken so many bytes more, with the checksum's state.
@@ -29,9 +27,7 @@ pub(crate) fn advance(x: Pass, n: usize, sum: u32) -> Pass
         bytes: x.come.bytes + n,
         sum,
     };
-    let mut y = x;
-    y.come = come;
-    y
+    Pass { come, ..x }
 }
 
 // A byte of a fill word.
@@ -46,26 +42,22 @@ pub(crate) fn take_word(x: Pass, b: u8) -> Pass
     advance(y, 1, x.come.sum)
 }
 
-// A fill word that stands at a place of the piece, taken at once.
-pub(crate) fn take_fill(x: Pass, piece: &[u8], i: usize) -> Pass
-    requires { (x.come.bytes + 4 ≤ x.told.length) × (i + 4 ≤ length piece.now) }
-    ensures { result ≡ word_taken x (take 4 (drop i piece.now)) }
+// A fill word, all four bytes at once.
+pub(crate) fn take_fill(x: Pass, bytes: &[u8]) -> Pass
+    requires { (x.come.bytes + 4 ≤ x.told.length) × (length bytes.now ≡ 4) }
+    ensures { result ≡ word_taken x bytes.now }
 {
-    let end = i + 4;
     let mut word = x.kept.word;
-    fields_write::copy(&mut word, 0, &piece[i..end]);
-    let mut kept = x.kept;
-    kept.word = word;
-    let mut y = x;
-    y.kept = kept;
+    fields_write::copy(&mut word, 0, bytes);
+    let kept = Kept { word, ..x.kept };
+    let y = Pass { kept, ..x };
     advance(y, 4, sum_fill(y))
 }
 
 // Raw data.
-pub(crate) fn take_raw(x: Pass, piece: &[u8], i: usize, n: usize) -> Pass
-    requires { (x.come.bytes + n ≤ x.told.length) × (i + n ≤ length piece.now) }
-    ensures { result ≡ moved x n (sum_on (head_of x) x.come.sum (take n (drop i piece.now))) }
+pub(crate) fn take_raw(x: Pass, bytes: &[u8]) -> Pass
+    requires { x.come.bytes + length bytes.now ≤ x.told.length }
+    ensures { result ≡ moved x (length bytes.now) (sum_on (head_of x) x.come.sum bytes.now) }
 {
-    let end = i + n;
-    advance(x, n, sum_raw(x, &piece[i..end]))
+    advance(x, bytes.len(), sum_raw(x, bytes))
 }

@@ -1,5 +1,5 @@
 // The bytes of the file header and of a chunk header: kept until their known fields have come, then tested.
-ghost use Rattle.std.specs.Prelude.{◌≡◌, ◌+◌, ◌-◌, ◌^◌, ◌≤◌, ◌<◌, length, take, drop};
+ghost use Rattle.std.specs.Prelude.{◌≡◌, ◌+◌, ◌-◌, ◌^◌, ◌≤◌, ◌<◌, length};
 ghost use Rattle.std.proofs.lemmas.List.Edits.{sets};
 ghost use Rattle.sparse_stream_rules.specs.State.{head_of, moved, keeping};
 ghost use Rattle.sparse_stream_rules.specs.Steps.{ready, headed, chunk_number, chunk_read, chunk_taken, gathered};
@@ -7,7 +7,7 @@ ghost use Rattle.sparse_stream_rules.specs.Steps.{ready, headed, chunk_number, c
 use sparse_kind::count_on;
 use sparse_rules::Cursor;
 use sparse_stream_rules::{Come, Kept, Pass, Walk};
-use sparse_stream_state::{blocks_now, kind_now, less, size_now};
+use sparse_stream_state::{blocks_now, header_of, kind_now, size_now};
 use sparse_stream_sum::sum_head;
 use sparse_stream_tests::{chunk_number, header_number, refuse, settle};
 
@@ -20,31 +20,24 @@ fn keep(x: Pass, kept: Kept, n: usize) -> Pass
         bytes: x.come.bytes + n,
         sum: x.come.sum,
     };
-    let mut y = x;
-    y.kept = kept;
-    y.come = come;
-    y
+    Pass { kept, come, ..x }
 }
 
 // The state whose file header's known fields have come: the first chunk is awaited.
 fn await_chunks(x: Pass) -> Pass
     ensures { result ≡ ready x }
 {
-    let file = x.kept.file;
-    let header = sparse_read::read_header(&file);
+    let header = header_of(x);
     let next = Cursor {
         at: header.start as usize,
-        first: x.walk.next.first,
+        ..x.walk.next
     };
-    let counts = x.walk.counts;
     let walk = Walk {
         next,
         left: header.chunks,
-        counts,
+        ..x.walk
     };
-    let mut y = x;
-    y.walk = walk;
-    y
+    Pass { walk, ..x }
 }
 
 // A byte of the file header's known fields.
@@ -81,17 +74,14 @@ fn pass_chunk(x: Pass, total: u32) -> Pass
     };
     let walk = Walk {
         next,
-        left: less(x.walk.left as usize, 1) as u32,
+        left: x.walk.left.saturating_sub(1),
         counts: count_on(x.walk.counts, kind, blocks),
     };
     let come = Come {
         bytes: x.come.bytes,
         sum: sum_head(x, kind),
     };
-    let mut y = x;
-    y.walk = walk;
-    y.come = come;
-    y
+    Pass { walk, come, ..x }
 }
 
 // The chunk whose header has come.
@@ -100,9 +90,7 @@ fn take_chunk(x: Pass) -> Pass
 {
     let number = chunk_number(x);
     if number == 0 {
-        let file = x.kept.file;
-        let header = sparse_read::read_header(&file);
-        return settle(pass_chunk(x, header.total));
+        return settle(pass_chunk(x, header_of(x).total));
     }
     refuse(x, number, x.walk.next.at as u64)
 }
@@ -122,15 +110,13 @@ pub(crate) fn gather(x: Pass, b: u8) -> Pass
     y
 }
 
-// A chunk header whose known fields stand at a place of the piece, read at once.
-pub(crate) fn take_head(x: Pass, piece: &[u8], i: usize) -> Pass
-    requires { (x.come.bytes + 12 ≤ x.told.length) × (i + 12 ≤ length piece.now) }
-    ensures { result ≡ chunk_taken (moved (keeping x (record { file = x.kept.file; chunk = sets x.kept.chunk 0 (take 12 (drop i piece.now)); word = x.kept.word })) 12 x.come.sum) }
+// The known fields of a chunk header, all twelve bytes at once.
+pub(crate) fn take_head(x: Pass, bytes: &[u8]) -> Pass
+    requires { (x.come.bytes + 12 ≤ x.told.length) × (length bytes.now ≡ 12) }
+    ensures { result ≡ chunk_taken (moved (keeping x (record { file = x.kept.file; chunk = sets x.kept.chunk 0 bytes.now; word = x.kept.word })) 12 x.come.sum) }
 {
-    let end = i + 12;
     let mut chunk = x.kept.chunk;
-    fields_write::copy(&mut chunk, 0, &piece[i..end]);
-    let mut kept = x.kept;
-    kept.chunk = chunk;
+    fields_write::copy(&mut chunk, 0, bytes);
+    let kept = Kept { chunk, ..x.kept };
     take_chunk(keep(x, kept, 12))
 }

@@ -5,7 +5,7 @@
 mod data;
 mod heads;
 
-ghost use Rattle.std.specs.Prelude.{◌≡◌, cond, ◌+◌, ◌≤◌, leb, length, take, drop};
+ghost use Rattle.std.specs.Prelude.{◌≡◌, cond, ◌+◌, ◌≤◌, leb, length};
 ghost use Rattle.sparse_stream_rules.specs.Steps.{fed};
 ghost use Rattle.sparse_stream_rules.specs.Laid.{stores};
 ghost use Rattle.sparse_stream_feed.specs.Stretch.{at_once, stretch, Turn};
@@ -15,7 +15,7 @@ use heads::{gather, take_head, take_header};
 use sparse_rules::Kind;
 use sparse_stream_lay::lay;
 use sparse_stream_rules::Pass;
-use sparse_stream_state::{data_bytes, is_stuck, kind_now, least};
+use sparse_stream_state::{data_bytes, is_stuck, kind_now};
 use sparse_stream_tests::settle;
 
 // How many bytes of so many are taken where n are wanted at once: these, if they begin here and lie whole among them.
@@ -37,25 +37,25 @@ fn next_stretch(x: Pass, rest: usize) -> usize
         let kind = kind_now(x);
         let data = data_bytes(kind, x);
         if data < gap {
-            return least(gap - data, rest);
+            return usize::min(gap - data, rest);
         }
         match kind {
-            Kind::Raw => return least(gap, rest),
+            Kind::Raw => return usize::min(gap, rest),
             Kind::Fill => return at_once(gap == 4, 4, rest),
-            Kind::DontCare => return 1,
-            Kind::Unknown => return 1,
+            Kind::DontCare | Kind::Unknown => return 1,
         }
     }
     at_once(x.come.bytes == x.walk.next.at, 12, rest)
 }
 
-// A turn: so many bytes of a piece from a place on.
-fn turn(x: Pass, piece: &[u8], i: usize, n: usize) -> Pass
-    requires { Turn x piece.now i n × (x.come.bytes + n ≤ x.told.length) }
-    ensures { result ≡ fed x (take n (drop i piece.now)) }
+// A turn: the bytes of a stretch.
+fn turn(x: Pass, bytes: &[u8]) -> Pass
+    requires { Turn x bytes.now × (x.come.bytes + length bytes.now ≤ x.told.length) }
+    ensures { result ≡ fed x bytes.now }
 {
+    let n = bytes.len();
     if x.come.bytes < 28 {
-        return take_header(x, piece[i]);
+        return take_header(x, bytes[0]);
     }
     if x.come.bytes < x.walk.next.at {
         let kind = kind_now(x);
@@ -63,21 +63,20 @@ fn turn(x: Pass, piece: &[u8], i: usize, n: usize) -> Pass
             return settle(advance(x, n, x.come.sum));
         }
         match kind {
-            Kind::Raw => return settle(take_raw(x, piece, i, n)),
+            Kind::Raw => return settle(take_raw(x, bytes)),
             Kind::Fill => {
                 if n == 4 {
-                    return settle(take_fill(x, piece, i));
+                    return settle(take_fill(x, bytes));
                 }
-                return settle(take_word(x, piece[i]));
+                return settle(take_word(x, bytes[0]));
             }
-            Kind::DontCare => return settle(advance(x, n, x.come.sum)),
-            Kind::Unknown => return settle(advance(x, n, x.come.sum)),
+            Kind::DontCare | Kind::Unknown => return settle(advance(x, n, x.come.sum)),
         }
     }
     if n == 12 {
-        return take_head(x, piece, i);
+        return take_head(x, bytes);
     }
-    gather(x, piece[i])
+    gather(x, bytes[0])
 }
 
 // A piece that is no more than announced, a stretch at a time.
@@ -86,18 +85,16 @@ fn feed_all(x: Pass, piece: &[u8], partition: &mut [u8]) -> Pass
     ensures answer { result ≡ fed x piece.now }
     ensures contents { partition.new ≡ stores x piece.now partition.old }
 {
-    let n = piece.len();
     let mut y = x;
-    let mut i: usize = 0;
-    while i < n {
+    let mut left = piece;
+    while !left.is_empty() {
         if is_stuck(y) {
             return y;
         }
-        let m = next_stretch(y, n - i);
-        let end = i + m;
-        lay(y, &piece[i..end], partition);
-        y = turn(y, piece, i, m);
-        i = end;
+        let (bytes, after) = left.split_at(next_stretch(y, left.len()));
+        lay(y, bytes, partition);
+        y = turn(y, bytes);
+        left = after;
     }
     y
 }

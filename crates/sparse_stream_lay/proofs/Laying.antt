@@ -1,6 +1,7 @@
 -- What a stretch of bytes stores, by what the code has found of the state.
 -- Assumes nothing.
 use mathlib.Core.Path.{◌≡◌, refl, sym, ap, ◌∙◌}
+use mathlib.Core.Logic.{◌⊎◌, inl, inr}
 use mathlib.Core.Bool.{Bool, true, false, ◌&&◌}
 use mathlib.Core.Option.{some}
 use mathlib.Core.List.{List, [], ◌∷◌, map, append-nil}
@@ -111,8 +112,6 @@ module _ (x : Pass) (bs p : List ℕ) (n : length bs ≡ 0 → ⊥) {r : Bool} (
           rw (← ek, k, o, ne_eqb (gap x) 1 (λ z. g (eg ∙ z))))
 
   -- bytes of a chunk that is skipped
-  pub lay_kept : kind ≡ DontCare → p ≡ stretch_laid x bs p
-  lay_kept k = inside x bs p p n w (λ c cs h. rw (← ek, k))
-
-  pub lay_unknown : kind ≡ Unknown → p ≡ stretch_laid x bs p
-  lay_unknown k = inside x bs p p n w (λ c cs h. rw (← ek, k))
+  pub lay_kept : (kind ≡ DontCare) ⊎ (kind ≡ Unknown) → p ≡ stretch_laid x bs p
+  lay_kept (inl k) = inside x bs p p n w (λ c cs h. rw (← ek, k))
+  lay_kept (inr k) = inside x bs p p n w (λ c cs h. rw (← ek, k))

@@ -10,14 +10,14 @@ ghost use Rattle.sparse_stream_lay.specs.Laid.{fill_by, stretch_laid};
 use sparse_rules::{Chunk, Kind};
 use sparse_store_chunk::store_chunk;
 use sparse_stream_rules::Pass;
-use sparse_stream_state::{end_now, gap_now, is_in_data, kind_now, less, span_now};
+use sparse_stream_state::{end_now, gap_now, is_in_data, kind_now, span_now};
 
 // A fill chunk, whole, by its word.
 fn lay_fill(x: Pass, word: &[u8], partition: &mut [u8])
     ensures { partition.new ≡ fill_by x word.now partition.old }
 {
     let span = span_now(x) as usize;
-    let from = less(end_now(x) as usize, span);
+    let from = (end_now(x) as usize).saturating_sub(span);
     let chunk = Chunk {
         kind: Kind::Fill,
         blocks: 0,
@@ -56,7 +56,8 @@ pub fn lay(x: Pass, bytes: &[u8], partition: &mut [u8])
                 blocks: 0,
                 body: 0,
             };
-            store_chunk(bytes, partition, chunk, less(end_now(x) as usize, gap), n);
+            let from = (end_now(x) as usize).saturating_sub(gap);
+            store_chunk(bytes, partition, chunk, from, n);
         }
         Kind::Fill => {
             if (n == 4) & (gap == 4) {
@@ -65,7 +66,6 @@ pub fn lay(x: Pass, bytes: &[u8], partition: &mut [u8])
                 lay_last(x, bytes[0], partition);
             }
         }
-        Kind::DontCare => {}
-        Kind::Unknown => {}
+        Kind::DontCare | Kind::Unknown => {}
     }
 }

@@ -1,24 +1,18 @@
 // What the state of a pass says: the header of the chunk that came last, its blocks, and where they lie.
 #![tactic(auto)]
 
-ghost use Rattle.std.specs.Prelude.{◌≡◌, ◌-◌, min};
-ghost use Rattle.sparse_stream_rules.specs.State.{kind_now, blocks_now, size_now, span_now, end_now, gap, data_by, stuck, in_data};
+ghost use Rattle.std.specs.Prelude.{◌≡◌};
+ghost use Rattle.sparse_stream_rules.specs.State.{head_of, kind_now, blocks_now, size_now, span_now, end_now, gap, data_by, stuck, in_data};
 
-use sparse_rules::Kind;
+use sparse_rules::{Header, Kind};
 use sparse_stream_rules::Pass;
 
-// The lesser of two numbers.
-pub fn least(a: usize, b: usize) -> usize
-    ensures { result ≡ min a b }
+// The file header, by its bytes that have come.
+pub fn header_of(x: Pass) -> Header
+    ensures { result ≡ head_of x }
 {
-    if a <= b { a } else { b }
-}
-
-// The difference of two numbers, and 0 where there is none.
-pub fn less(a: usize, b: usize) -> usize
-    ensures { result ≡ a - b }
-{
-    if b <= a { a - b } else { 0 }
+    let file = x.kept.file;
+    sparse_read::read_header(&file)
 }
 
 // The kind of the chunk whose header came last.
@@ -49,25 +43,21 @@ pub fn size_now(x: Pass) -> u32
 pub fn span_now(x: Pass) -> u64
     ensures { result ≡ span_now x }
 {
-    let file = x.kept.file;
-    let header = sparse_read::read_header(&file);
-    sparse_read::bytes_of(blocks_now(x), header.block)
+    sparse_read::bytes_of(blocks_now(x), header_of(x).block)
 }
 
 // Where the blocks of the chunks that were read end in the partition.
 pub fn end_now(x: Pass) -> u64
     ensures { result ≡ end_now x }
 {
-    let file = x.kept.file;
-    let header = sparse_read::read_header(&file);
-    sparse_read::bytes_of(x.walk.next.first, header.block)
+    sparse_read::bytes_of(x.walk.next.first, header_of(x).block)
 }
 
 // The bytes of the chunk that are still to come.
 pub fn gap_now(x: Pass) -> usize
     ensures { result ≡ gap x }
 {
-    less(x.walk.next.at, x.come.bytes)
+    x.walk.next.at.saturating_sub(x.come.bytes)
 }
 
 // How many bytes of data a kind of chunk ends with.
@@ -75,10 +65,9 @@ pub fn data_bytes(kind: Kind, x: Pass) -> usize
     ensures { result ≡ data_by kind x }
 {
     match kind {
-        Kind::Raw => least(span_now(x) as usize, end_now(x) as usize),
+        Kind::Raw => usize::min(span_now(x) as usize, end_now(x) as usize),
         Kind::Fill => 4,
-        Kind::DontCare => 0,
-        Kind::Unknown => 0,
+        Kind::DontCare | Kind::Unknown => 0,
     }
 }
 
@@ -86,7 +75,8 @@ pub fn data_bytes(kind: Kind, x: Pass) -> usize
 pub fn is_stuck(x: Pass) -> bool
     ensures { result ≡ stuck x }
 {
-    (0 < x.refusal.number) | ((28 <= x.come.bytes) & (12 <= less(x.come.bytes, x.walk.next.at)))
+    (0 < x.refusal.number)
+        | ((28 <= x.come.bytes) & (12 <= x.come.bytes.saturating_sub(x.walk.next.at)))
 }
 
 // Whether the next byte is one of a chunk's data.

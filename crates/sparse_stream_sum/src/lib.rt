@@ -9,14 +9,13 @@ ghost use Rattle.sparse_stream_rules.specs.Steps.{sum_on, skip_sum, fill_sum};
 
 use sparse_rules::Kind;
 use sparse_stream_rules::Pass;
-use sparse_stream_state::span_now;
+use sparse_stream_state::{header_of, span_now};
 
 // Whether the file header states a checksum.
 fn is_stated(x: Pass) -> bool
     ensures { result ≡ sum_stated (head_of x).checksum }
 {
-    let file = x.kept.file;
-    fields_read::read32(&file, 24) != 0
+    header_of(x).checksum != 0
 }
 
 // The state after raw data.
@@ -55,9 +54,7 @@ pub fn sum_head(x: Pass, kind: Kind) -> u32
     ensures { result ≡ skip_sum (writes kind) (head_of x) (span_now x) x.come.sum }
 {
     match kind {
-        Kind::Raw => x.come.sum,
-        Kind::Fill => x.come.sum,
-        Kind::DontCare => sum_skipped(x),
-        Kind::Unknown => sum_skipped(x),
+        Kind::Raw | Kind::Fill => x.come.sum,
+        Kind::DontCare | Kind::Unknown => sum_skipped(x),
     }
 }

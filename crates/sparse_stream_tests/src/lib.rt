@@ -8,9 +8,10 @@ ghost use Rattle.sparse_stream_rules.specs.Steps.{header_number, opened, arrival
 
 use sparse_rules::Refusal;
 use sparse_stream_rules::Pass;
-use sparse_stream_state::{blocks_now, kind_now, size_now};
+use sparse_stream_state::{blocks_now, header_of, kind_now, size_now};
 
-// The number of a refusal where its test applies, and 0 where it does not.
+// The number of a refusal where its test applies, and 0 where it does not. Here 0 stays the sign for none: the
+// definitions that these functions equal have it so, and a pass in its bytes.
 fn number_if(applies: bool, number: u32) -> u32
     ensures { result ≡ cond applies number 0 }
 {
@@ -62,10 +63,10 @@ pub fn refuse(x: Pass, number: u32, place: u64) -> Pass
     if number == 0 {
         return x;
     }
-    let refusal = Refusal { number, place };
-    let mut y = x;
-    y.refusal = refusal;
-    y
+    Pass {
+        refusal: Refusal { number, place },
+        ..x
+    }
 }
 
 // The first call's test, which reads no byte.
@@ -84,8 +85,7 @@ pub fn opening(x: Pass) -> Pass
 fn arrival_number(x: Pass) -> u32
     ensures { result ≡ arrival x }
 {
-    let file = x.kept.file;
-    let header = sparse_read::read_header(&file);
+    let header = header_of(x);
     if 0 < x.walk.left {
         if x.told.length < x.walk.next.at {
             return 7;
@@ -132,8 +132,7 @@ pub fn settle(x: Pass) -> Pass
 pub fn chunk_number(x: Pass) -> u32
     ensures { result ≡ chunk_number x }
 {
-    let file = x.kept.file;
-    let header = sparse_read::read_header(&file);
+    let header = header_of(x);
     let blocks = blocks_now(x);
     let size = size_now(x);
     if sparse_read::size_right(header, kind_now(x), blocks, size) {

@@ -40,14 +40,13 @@ pub record Tallied (s : List ℕ) (h : Header) (n : ℕ) (c : Cursor) (t : Count
   pub counts : counts_of ks ≡ t
   pub sum : blocks_in ks ≡ c.first
 
-pub tally_start : (s : List ℕ) (h : Header) → Tallied s h h.chunks (origin h) no_counts
-tally_start s h = record { ks = []; goes = after_none (walk s (length s) h h.chunks (origin h)); counts = counts_none; sum = refl }
+pub tally_start : (s : List ℕ) (h : Header) {n : ℕ} → n ≡ h.chunks → Tallied s h n (origin h) no_counts
+tally_start s h e = rw e (record { ks = []; goes = after_none (walk s (length s) h h.chunks (origin h)); counts = counts_none; sum = refl })
 
 module _ (s : List ℕ) (h : Header) (n : ℕ) (c : Cursor) (t : Counts) (i : Tallied s h n c t) where
-  -- a chunk that is read
-  pub tally_step : (k : Chunk) (next : Cursor) → 0 < n → h.total < 2 ^ 32 → reading s (length s) h c ≡ chunk k next
+  step : (k : Chunk) (next : Cursor) → 0 < n → h.total < 2 ^ 32 → reading s (length s) h c ≡ chunk k next
       → Tallied s h (n - 1) next (counted_on t k.kind k.blocks)
-  tally_step k next p fits e =
+  step k next p fits e =
       let f = chunk_facts s (length s) h c k next e in
       record {
         ks = i.ks ++ (k ∷ []);
@@ -55,6 +54,14 @@ module _ (s : List ℕ) (h : Header) (n : ℕ) (c : Cursor) (t : Counts) (i : Ta
         counts = counted-on i.ks k (omega (arith, i.sum, f.blocks, f.within)) ∙ ap (λ (x : Counts). counted_on x k.kind k.blocks) i.counts;
         sum = omega (arith, blocks_one i.ks k, i.sum, f.blocks);
       }
+
+  -- a chunk that is read
+  pub tally_step : (k : Chunk) (next : Cursor) {m : ℕ} → m + 1 ≡ n → h.total < 2 ^ 32 → reading s (length s) h c ≡ chunk k next
+      → Tallied s h m next (counted_on t k.kind k.blocks)
+  tally_step k next {m} p fits e =
+      let q : n - 1 ≡ m = omega arith in
+      let some : 0 < n = omega arith in
+      rw (← q) (step k next some fits e)
 
   -- what the rest of the walk finds, the whole walk answers
   rest : (f : Finding) → walk s (length s) h n c ≡ f → answer_for (after i.ks f) ≡ answer_for (walk s (length s) h h.chunks (origin h))

@@ -17,11 +17,12 @@ use Rattle.crc32_rules.proofs.Laws.{crc_finish}
 use Rattle.sparse_rules.specs.Header.{block_size_right}
 use Rattle.sparse_write_rules.specs.Blocks.{blocks_from, flat_blocks}
 use Rattle.sparse_write_rules.specs.Kinds.{BlockKind, stored_kind, block_kind}
-use Rattle.sparse_write_rules.specs.Encode.{chunks, header}
+use Rattle.sparse_write_rules.specs.Encode.{header}
 use Rattle.sparse_write_rules.specs.Write.{flat_image, length_wrong, answer, output}
 use Rattle.sparse_write_rules.proofs.Chunks.{length_header}
 use Rattle.sparse_write_rules.proofs.FlatImage.{kind_tab, length-blocks, flat-image, block_good, length_good, refuse_12, accept}
-use Rattle.sparse_scan.specs.Scan.{kinds_at, runs_at}
+use Rattle.sparse_scan.specs.Scan.{kinds_at}
+use Rattle.sparse_write.specs.Flat.{flat_runs, flat_chunks}
 
 -- the kinds of blocks of flat data are those of their places
 kinds_flat : (d : List ℕ) (b n at : ℕ) → 4 ≤ b → map (block_kind b) (blocks_from d b n at) ≡ kinds_at (stored_kind d b) b n at
@@ -29,13 +30,9 @@ unfolding blocks_from kinds_at
 kinds_flat d b zero at h = refl
 kinds_flat d b (suc n) at h = ap₂ (λ (k : BlockKind) (r : List BlockKind). k ∷ r) (kind_tab d b at h) (kinds_flat d b n (at + b) h)
 
--- the chunks of the image of flat data, by the places of its blocks
-abbrev flat_chunks : List ℕ → ℕ → List ℕ
-flat_chunks d b = chunks b d 0 (runs_at (stored_kind d b) b (length d / b) 0)
-
--- and its header
+-- the header of the image of flat data
 abbrev flat_header : List ℕ → ℕ → List ℕ
-flat_header d b = header b (length d / b) (length (runs_at (stored_kind d b) b (length d / b) 0)) (crc32 d)
+flat_header d b = header b (length d / b) (length (flat_runs d b)) (crc32 d)
 
 module _ (d : List ℕ) (b : ℕ) (out : List ℕ) (g : block_size_right b ≡ true) (l : length_wrong (length d) b ≡ false) where
   is : flat_image d b ≡ flat_header d b ++ flat_chunks d b
@@ -53,7 +50,7 @@ module _ (d : List ℕ) (b : ℕ) (out : List ℕ) (g : block_size_right b ≡ t
 
   -- the image is put: its chunks, then its header
   pub image_put : (z k state sum : ℕ) {o1 o2 : List ℕ} → z ≡ 28 + length (flat_chunks d b)
-      → k ≡ length (runs_at (stored_kind d b) b (length d / b) 0) → state ≡ crc_from all_ones d → sum ≡ bit_xor state all_ones → z ≤ length out
+      → k ≡ length (flat_runs d b) → state ≡ crc_from all_ones d → sum ≡ bit_xor state all_ones → z ≤ length out
       → o1 ≡ sets out 28 (flat_chunks d b) → o2 ≡ placed o1 0 (header b (length d / b) k sum)
       → (accepted z ≡ answer d b (length out)) × (o2 ≡ output d b out)
   image_put z k state sum {o1} ez ek es ec h e1 e2 =

@@ -1,11 +1,13 @@
 // A chunk put at its place of the output, and the checksum's state over the bytes that it stands for.
-ghost use Rattle.std.specs.Prelude.{◌≡◌, ◌+◌, ◌/◌, ◌≤◌, ◌<◌, length};
+ghost use Rattle.std.specs.Prelude.{◌≡◌, Some, ◌+◌, ◌/◌, ◌≤◌, length};
 ghost use Rattle.std.proofs.lemmas.List.Edits.{sets};
 ghost use Rattle.fields_rules.specs.Number.{bytes};
 ghost use Rattle.crc32_rules.specs.Crc.{crc_from};
 ghost use Rattle.crc32_rules.specs.Power.{repeated};
 ghost use Rattle.sparse_write_rules.specs.Encode.{chunk_size, chunk};
-ghost use Rattle.sparse_write_rules.specs.Numbered.{kind_numbered, OfKind};
+ghost use Rattle.sparse_write_rules.specs.KindOf.{kind_of, OfKind};
+
+use sparse_write_rules::Stored;
 
 // From this length on, a run of one word costs less than its bytes one after the other.
 const LONG: usize = 128;
@@ -37,23 +39,20 @@ pub(crate) fn put_chunk(
     out: &mut [u8],
     pos: usize,
     src: &[u8],
-    kind: u64,
+    stored: Stored,
     blocks: u32,
     state: u32,
 ) -> u32
-    requires { (pos + chunk_size (kind_numbered kind) (length src.now) ≤ length out.old)
+    requires { (pos + chunk_size (kind_of (Some stored)) (length src.now) ≤ length out.old)
         × (length src.now ≤ 2147483648)
-        × (0 < kind)
-        × (kind < 4294967298)
-        × OfKind (kind_numbered kind) src.now }
+        × OfKind (kind_of (Some stored)) src.now }
     ensures { (result ≡ crc_from state src.now)
-        × (out.new ≡ sets out.old pos (chunk (kind_numbered kind) blocks src.now)) }
+        × (out.new ≡ sets out.old pos (chunk (kind_of (Some stored)) blocks src.now)) }
 {
-    let total = sparse_put::chunk_size(kind, src.len() as u32);
-    sparse_put::put_top(out, pos, kind, blocks, total as u32);
-    if kind == 1 {
-        return put_data(out, pos + 12, src, state);
+    let total = sparse_put::chunk_size(Some(stored), src.len() as u32);
+    sparse_put::put_top(out, pos, Some(stored), blocks, total as u32);
+    match stored {
+        Stored::Raw => put_data(out, pos + 12, src, state),
+        Stored::Fill(word) => sum_fill(state, src, word),
     }
-    let word = (kind - 2) as u32;
-    sum_fill(state, src, word)
 }

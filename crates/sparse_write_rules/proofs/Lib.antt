@@ -1,7 +1,7 @@
 pub mod Runs
 pub mod KindSteps
 pub mod KindCells
-pub mod Numbered
+pub mod KindOf
 pub mod Chunks
 pub mod ReadBack
 pub mod FlatImage

@@ -1,6 +1,6 @@
 pub mod Blocks
 pub mod Kinds
-pub mod Numbered
+pub mod KindOf
 pub mod Runs
 pub mod Encode
 pub mod Parts

@@ -1,11 +1,11 @@
 -- What the writer of flat data answers, and what it leaves in its output.
 -- Assumes nothing.
-use Rattle.std.specs.Prelude.{Bool, not, ◌||◌, List, [], ◌∷◌, ◌++◌, ℕ, ◌+◌, ◌*◌, ◌/◌, ◌%◌, ltb, eqb, length, drop}
+use Rattle.std.specs.Prelude.{Bool, not, ◌||◌, List, [], ◌∷◌, ◌++◌, ℕ, ◌+◌, ◌*◌, ◌/◌, ◌%◌, ltb, eqb, length, drop, Result}
 use Rattle.rules.specs.First.{first}
 use Rattle.rules.specs.Answer.{Answer, accepted, refused, unless}
 use Rattle.sparse_rules.specs.Header.{block_size_right}
-use Rattle.sparse_write_rules.specs.declared.Outcome.{Outcome}
-use Rattle.sparse_write_rules.specs.declared.Outcome.TheVariants as outcome
+use Rattle.sparse_rules.specs.declared.Refusal.{Refusal}
+use Rattle.sparse_rules.specs.Answers as judge
 use Rattle.sparse_write_rules.specs.Blocks.{flat_blocks}
 use Rattle.sparse_write_rules.specs.Encode.{encode}
 
@@ -26,9 +26,8 @@ write_tests d b room =
     ∷ []
 
 -- the code's answer in document 01's terms: "The answer is the image's length", or a refusal's number and place
-abbrev pub answer_of : Outcome → Answer ℕ
-answer_of (outcome.Written n) = accepted n
-answer_of (outcome.Refused f) = refused f.number f.place
+abbrev pub answer_of : Result ℕ Refusal → Answer ℕ
+answer_of r = judge.answer_of r
 
 -- what the writer answers: the image's length, or a refusal at place 0
 unfoldable pub answer : List ℕ → ℕ → ℕ → Answer ℕ

@@ -3,43 +3,46 @@
 
 ghost use Rattle.std.specs.Prelude.{◌≡◌};
 ghost use Rattle.text_rules.specs.Put.{Put};
+ghost use Rattle.text.specs.Texts.{Puts};
 ghost use Rattle.starter_rules.specs.Line.{letter, suffix, mode, line};
 
 use starter_texts::put_image_line;
+use text::Text;
 
-// The letter of a slot, a to d.
+// The letter of a slot, a to d; no slot is past d.
 fn letter_of(slot: u8) -> u8
     ensures { result ≡ letter slot }
 {
-    if slot < 4 { 97 + slot } else { 0 }
+    b"abcd".get(slot as usize).copied().unwrap_or(0)
 }
 
-// Puts the slot, and answers the place after it.
-fn put_suffix(out: &mut [u8], at: usize, slot: u8) -> usize
-    ensures { Put out.old at (suffix slot) out.new result }
+// Puts the slot.
+fn put_suffix(out: &mut Text, slot: u8)
+    ensures { Puts out.old (suffix slot) out.new }
 {
-    let letter = [letter_of(slot)];
-    let next = text::put(out, at, b" androidboot.slot_suffix=_");
-    text::put(out, next, &letter)
+    out.put(b" androidboot.slot_suffix=_");
+    out.put(&[letter_of(slot)]);
 }
 
-// Puts the mode, and answers the place after it.
-fn put_mode(out: &mut [u8], at: usize, asked: bool) -> usize
-    ensures { Put out.old at (mode asked) out.new result }
+// Puts the mode.
+fn put_mode(out: &mut Text, asked: bool)
+    ensures { Puts out.old (mode asked) out.new }
 {
     if asked {
-        return at;
+        return;
     }
-    text::put(out, at, b" skip_initramfs")
+    out.put(b" skip_initramfs");
 }
 
-// Puts the line of a slot with its image at the start of a buffer, and answers the place after it.
+// Puts the line of a slot with its image at the start of a buffer, and answers how long it is.
 pub fn put_line(out: &mut [u8], loader: &[u8], image: &[u8], slot: u8, asked: bool) -> usize
     ensures { Put out.old 0 (line loader.now image.now slot asked) out.new result }
 {
-    let first = text::put(out, 0, loader);
-    let second = text::put(out, first, b" ");
-    let third = put_image_line(out, second, image);
-    let fourth = put_suffix(out, third, slot);
-    put_mode(out, fourth, asked)
+    let mut text = Text::at(out, 0);
+    text.put(loader);
+    text.put(b" ");
+    put_image_line(&mut text, image);
+    put_suffix(&mut text, slot);
+    put_mode(&mut text, asked);
+    text.len()
 }

@@ -2,8 +2,8 @@
 -- Assumes nothing.
 use mathlib.Core.Path.{◌≡◌, refl, sym, ap, ◌∙◌}
 use mathlib.Core.Bool.{Bool, true, false, ◌||◌, or-true}
-use mathlib.Core.List.{List, [], ◌∷◌, ◌++◌}
-use Prim.Native.Nat.{ℕ, ◌+◌, ◌≤◌, min}
+use mathlib.Core.List.{List, ◌++◌}
+use Prim.Native.Nat.{ℕ, ◌≤◌}
 use native.Mathlib.Omega.{arith}
 use lib.Dec.{ltb}
 use lib.ListN.{length, drop}
@@ -14,7 +14,7 @@ use Rattle.fields_rules.proofs.Sets.{sets_whole}
 use Rattle.text_rules.specs.Put.{Put}
 use Rattle.slot_rules.specs.Answers as slots
 use Rattle.boot_rules.specs.declared.Layout.{Layout}
-use Rattle.starter_rules.specs.Starter.{starts, recovery, leaving, needs_more, booted, image_of, booted_from, after_start}
+use Rattle.starter_rules.specs.Starter.{starts, recovery, leaving, needs_more, booted, booted_from, after_start}
 
 -- a slot whose image is refused
 pub booted_refused : (k n place : ℕ) (a : Answer Layout) (l space : List ℕ) → refused n place ≡ a → leaving (refused n place) space ≡ booted k a l space
@@ -65,20 +65,6 @@ module _ (k : ℕ) (layout : Layout) (l space : List ℕ) (n : ℕ) {a b : List 
         (λ i. leaving (accepted (starts k layout (same i))) ((p.stored ∙ sets_whole l space (omega (arith, same, fits))) i))
         ∙ line_fits k layout l space (omega (arith, same, fits)) (omega (arith, same, short))
 
--- the image of each place, by the number of the slot
-module _ (a b c d : List ℕ) (k : ℕ) where
-  pub image_a : k ≡ 0 → image_of (a ∷ b ∷ c ∷ d ∷ []) k ≡ a
-  image_a e = let m : min k 3 ≡ 0 = omega arith in rw m
-
-  pub image_b : k ≡ 1 → image_of (a ∷ b ∷ c ∷ d ∷ []) k ≡ b
-  image_b e = let m : min k 3 ≡ 1 = omega arith in rw m
-
-  pub image_c : k ≡ 2 → image_of (a ∷ b ∷ c ∷ d ∷ []) k ≡ c
-  image_c e = let m : min k 3 ≡ 2 = omega arith in rw m
-
-  pub image_d : 3 ≤ k → image_of (a ∷ b ∷ c ∷ d ∷ []) k ≡ d
-  image_d h = let m : min k 3 ≡ 3 = omega arith in rw m
-
 -- what follows Start, by its answer
 module _ (a : Answer slots.Deed) (images : List (List ℕ)) (asked : Bool) (loader space : List ℕ) where
   pub follows_starts : (k : ℕ) → a ≡ accepted (slots.starts k) → after_start a images asked loader space ≡ booted_from images asked loader space k
@@ -88,11 +74,3 @@ module _ (a : Answer slots.Deed) (images : List (List ℕ)) (asked : Bool) (load
   pub follows_recovery : a ≡ accepted slots.recovery → leaving (accepted recovery) space ≡ after_start a images asked loader space
   unfolding after_start
   follows_recovery e = rw e
-
-  pub follows_done : a ≡ accepted slots.done → leaving (accepted recovery) space ≡ after_start a images asked loader space
-  unfolding after_start
-  follows_done e = rw e
-
-  pub follows_refused : (n place : ℕ) → a ≡ refused n place → leaving (refused n place) space ≡ after_start a images asked loader space
-  unfolding after_start
-  follows_refused n place e = rw e

@@ -1,13 +1,13 @@
 -- Laws of the whole starter, one for each way out.
 -- Assumes nothing.
-use mathlib.Core.Path.{◌≡◌, refl, ap, ◌∙◌}
+use mathlib.Core.Path.{◌≡◌, refl, sym, ap, ◌∙◌}
 use mathlib.Core.Bool.{Bool, true, false, not, cond}
 use mathlib.Core.List.{List}
 use Prim.Native.Nat.{ℕ, ◌≤◌, ◌<◌}
 use native.Mathlib.Omega.{arith}
 use lib.ListN.{length}
 use borrow.Author.Tests.{eq-eqb, ne_eqb}
-use Rattle.rules.specs.Answer.{Answer, refused, number_of}
+use Rattle.rules.specs.Answer.{Answer, accepted, refused, number_of}
 use Rattle.slot_rules.specs.declared.Record.{Record}
 use Rattle.slot_rules.specs.Records.{valid}
 use Rattle.slot_rules.specs.Answers as slots
@@ -60,22 +60,27 @@ module _ (r : Record) (images : List (List ℕ)) (misc loader space : List ℕ) 
   unfolding starter
   out_after v h e = rw (begun_start v h) (ap (λ (b : Booted). record { answer = b.answer; after = (start_of r).after; space = b.space }) e)
 
-  -- and so by the number n of Start's refusal, c being what Start answers and leaves
-  module _ (c : slots.Change) (started : c ≡ start_of r) (n : ℕ) (told : n ≡ number_of c.answer) where
-    number : n ≡ number_of (start_of r).answer
-    number = told ∙ ap (λ (x : slots.Change). number_of x.answer) started
+  -- and so by what Start answers, c being that and the record after it
+  module _ (c : slots.Change) (started : c ≡ start_of r) where
+    told : {a : Answer slots.Deed} → c.answer ≡ a → number_of a ≡ number_of (start_of r).answer
+    told e = ap number_of (sym e) ∙ ap (λ (x : slots.Change). number_of x.answer) started
 
-    pub ends_31 : 0 < n → ◌≡◌ {A = Effect} (record { answer = refused n 0; after = r; space = space }) (starter r images misc loader space)
-    ends_31 h =
-        let p = invalid r n number h in
+    pub ends_31 : (n : ℕ) → 0 < n → c.answer ≡ refused n 0 → ◌≡◌ {A = Effect} (record { answer = refused n 0; after = r; space = space }) (starter r images misc loader space)
+    ends_31 n h e =
+        let p = invalid r n (told e) h in
         ap (λ (k : ℕ). record { answer = refused k 0; after = r; space = space }) p.1 ∙ out_31 p.0
 
-    pub ends_51 : n ≤ 0 → (length misc ≡ 32 → ⊥) → ◌≡◌ {A = Effect} (record { answer = refused 51 0; after = r; space = space }) (starter r images misc loader space)
-    ends_51 h other = out_51 (is_valid r n number h) other
+    module _ (d : slots.Deed) (e : c.answer ≡ accepted d) where
+      ok : valid r ≡ true
+      ok = is_valid r 0 (told e) (omega arith)
 
-    pub ends_after : n ≤ 0 → length misc ≡ 32 → {a : Answer Deed} {s : List ℕ} {asked : Bool} → asked ≡ asks_recovery misc
-        → leaving a s ≡ after_start c.answer images asked loader space
-        → ◌≡◌ {A = Effect} (record { answer = a; after = c.after; space = s }) (starter r images misc loader space)
-    ends_after h full {a} {s} {asked} ask e =
-        ap (λ (x : slots.Change). record { answer = a; after = x.after; space = s }) started
-        ∙ out_after (is_valid r n number h) full (e ∙ (λ i. after_start (started i).answer images (ask i) loader space))
+      pub ends_51 : (length misc ≡ 32 → ⊥) → ◌≡◌ {A = Effect} (record { answer = refused 51 0; after = r; space = space }) (starter r images misc loader space)
+      ends_51 other = out_51 ok other
+
+      pub ends_after : length misc ≡ 32 → {a : Answer Deed} {s : List ℕ} {asked : Bool} → asked ≡ asks_recovery misc
+          → leaving a s ≡ after_start (accepted d) images asked loader space
+          → ◌≡◌ {A = Effect} (record { answer = a; after = c.after; space = s }) (starter r images misc loader space)
+      ends_after full {a} {s} {asked} ask h =
+          let same : accepted d ≡ (start_of r).answer = sym e ∙ ap (λ (x : slots.Change). x.answer) started in
+          ap (λ (x : slots.Change). record { answer = a; after = x.after; space = s }) started
+          ∙ out_after ok full (h ∙ (λ i. after_start (same i) images (ask i) loader space))

@@ -1,7 +1,7 @@
 -- Laws of texts up to a zero byte, of texts in fields, and of lists that begin with others.
 -- Assumes nothing.
 use mathlib.Core.Path.{◌≡◌, refl, sym, ap, ◌∙◌}
-use mathlib.Core.Bool.{Bool, true, false, cond, ◌&&◌}
+use mathlib.Core.Bool.{Bool, true, false, cond}
 use mathlib.Core.List.{List, [], ◌∷◌}
 use Prim.Native.Nat.{ℕ, zero, suc, ◌+◌, ◌-◌, ◌≤◌, ◌<◌, min}
 use native.Mathlib.Nat.{zero-min, min-zero, suc-min-suc}
@@ -11,7 +11,7 @@ use lib.ListN.{length, get_or, take, drop, length-drop, drop_of_length-le}
 use lib.Seq.{take-nil, drop-cons}
 use borrow.Author.Tests.{eq-eqb, ne_eqb}
 use Rattle.boot_rules.specs.declared.Field.{Field}
-use Rattle.starter_rules.specs.Line.{up_to_zero, text_in, begins}
+use Rattle.starter_rules.specs.Line.{up_to_zero, text_in}
 
 -- from a place on: a zero byte ends the text, any other belongs to it, and so does the end of the list
 module _ (s : List ℕ) (i : ℕ) where
@@ -67,23 +67,3 @@ text_there s f n k e h =
     ap (λ (j : ℕ). take j (take (f.at + n - f.at) d)) h
     ∙ front (take (f.at + n - f.at) d)
     ∙ ap up_to_zero (ap (λ (j : ℕ). take j d) m ∙ take_least d f.width)
-
--- whether a list begins with another, from a place of both on
-module _ (ws s : List ℕ) (i : ℕ) where
-  begins_step : i < length ws → i < length s → begins (drop i ws) (drop i s) ≡ (eqb (get_or s i 0) (get_or ws i 0) && begins (drop (i + 1) ws) (drop (i + 1) s))
-  unfolding begins
-  begins_step g h = let next : i + 1 ≡ suc i = omega arith in rw (next, drop-cons ws i 0 g, drop-cons s i 0 h)
-
-  pub begins_same : i < length ws → i < length s → get_or s i 0 ≡ get_or ws i 0 → begins (drop i ws) (drop i s) ≡ begins (drop (i + 1) ws) (drop (i + 1) s)
-  begins_same g h e = begins_step g h ∙ rw (eq-eqb (get_or s i 0) (get_or ws i 0) e)
-
-  pub begins_other : i < length ws → i < length s → (get_or s i 0 ≡ get_or ws i 0 → ⊥) → begins (drop i ws) (drop i s) ≡ false
-  begins_other g h e = begins_step g h ∙ rw (ne_eqb (get_or s i 0) (get_or ws i 0) e)
-
-  pub begins_short : i < length ws → length s ≤ i → begins (drop i ws) (drop i s) ≡ false
-  unfolding begins
-  begins_short g h = rw (drop-cons ws i 0 g, drop_of_length-le s h)
-
-  pub begins_all : length ws ≤ i → begins (drop i ws) (drop i s) ≡ true
-  unfolding begins
-  begins_all h = rw (drop_of_length-le ws h)

@@ -1,6 +1,6 @@
 -- What the starter answers, and what it leaves of record and space.
 -- Assumes nothing.
-use Rattle.std.specs.Prelude.{Bool, not, cond, ◌||◌, List, [], ◌∷◌, ◌++◌, ℕ, min, eqb, ltb, length, get_or, drop}
+use Rattle.std.specs.Prelude.{Bool, not, cond, ◌||◌, List, [], ◌∷◌, ◌++◌, ℕ, min, eqb, ltb, length, get_or, drop, Result, Ok, Err}
 use Rattle.rules.specs.First.{first}
 use Rattle.rules.specs.Answer.{Answer, accepted, refused}
 use Rattle.slot_rules.specs.declared.Record.{Record}
@@ -10,7 +10,9 @@ use Rattle.slot_rules.specs.Operations.{start_of}
 use Rattle.boot_rules.specs.declared.Layout.{Layout}
 use Rattle.boot_rules.specs.Tests as boot
 use Rattle.starter_rules.specs.declared.Outcome.{Outcome}
-use Rattle.starter_rules.specs.declared.Outcome.TheVariants.{Starts, Recovery, Refused}
+use Rattle.starter_rules.specs.declared.Outcome.TheVariants.{Starts, Recovery}
+use Rattle.starter_rules.specs.declared.StartRefusal.{StartRefusal}
+use Rattle.starter_rules.specs.declared.StartRefusal.TheVariants.{Slots, Image, Misc, Line}
 use Rattle.starter_rules.specs.Line.{line, asks_recovery}
 
 -- what the starter does where it refuses nothing: a slot starts, with "what the boot part answers for its image, and the line's length", or Recovery
@@ -18,11 +20,22 @@ pub data Deed : Type 0 where
   starts : ℕ → Layout → ℕ → Deed
   recovery : Deed
 
--- what each case of the enum says: "All other refusals carry 0"
-abbrev pub answer_of : Outcome → Answer Deed
-answer_of (Starts k l n) = accepted (starts k l n)
-answer_of Recovery = accepted recovery
-answer_of (Refused n) = refused n 0
+-- what each case of the enum says
+abbrev pub deed_of : Outcome → Deed
+deed_of (Starts k l n) = starts k l n
+deed_of Recovery = recovery
+
+-- the number of each refusal: Start's and the image's own, "51 misc not 32 bytes", and 52 for the line
+abbrev pub refusal_number : StartRefusal → ℕ
+refusal_number (Slots own) = slots.number own
+refusal_number (Image own) = boot.refusal_number own
+refusal_number Misc = 51
+refusal_number Line = 52
+
+-- "All other refusals carry 0": each case of the code's answer, with its number and place or its deed
+abbrev pub answer_of : Result Outcome StartRefusal → Answer Deed
+answer_of (Ok o) = accepted (deed_of o)
+answer_of (Err r) = refused (refusal_number r) 0
 
 -- "31; 51 misc not 32 bytes", both before Start
 abbrev pub early_tests : Record → List ℕ → List (Bool × ℕ)
@@ -74,7 +87,7 @@ pub record Effect : Type 0 where
   pub space : List ℕ
 
 -- what the code answers, and leaves of record and space
-abbrev pub effect_of : Outcome → Record → List ℕ → Effect
+abbrev pub effect_of : Result Outcome StartRefusal → Record → List ℕ → Effect
 effect_of o r space = record { answer = answer_of o; after = r; space = space }
 
 -- "The record stays as Start left it, here alone also in a refusal after Start": the starter, with an image for each of the places a to d

@@ -259,7 +259,7 @@ pub fn tarpaulark_start(
     ensures { record { number = result; answer = out.new; bytes = bytes.new; space = space.new }
         ≡ start_bytes bytes.old (a.now ∷ b.now ∷ c.now ∷ d.now ∷ []) misc.now loader.now space.old }
 {
-    tarpaulark_starter::start(bytes, a, b, c, d, misc, loader, space, out)
+    tarpaulark_starter::start(bytes, &[a, b, c, d], misc, loader, space, out)
 }
 
 // Counts an image in a report, judged for a partition of so many bytes. A report is accepted, blocks, bytes, skipped,

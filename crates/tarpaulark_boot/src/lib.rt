@@ -7,7 +7,6 @@ ghost use Rattle.boot_rules.specs.Tests as boot;
 ghost use Rattle.boot_launch_rules.specs.Tests as launch;
 ghost use Rattle.tarpaulark_numbers.specs.Numbers.{layout_numbers};
 
-use boot_image::number_of;
 use tarpaulark_numbers::located_answer;
 
 // Finds the sections of a boot image.
@@ -16,8 +15,11 @@ pub fn locate(image: &[u8], out: &mut [u64; 17]) -> u32
         × (out.new ≡ layout_numbers (boot.answer image.now)) }
 {
     let found = boot_image::locate(image);
-    *out = located_answer(found);
-    number_of(found)
+    *out = located_answer(found.ok());
+    match found {
+        Ok(_) => 0,
+        Err(refusal) => refusal.number(),
+    }
 }
 
 // Finds the sections of a boot image for a board launched with a release, by its kernel, 0 plain and 1 generic.
@@ -26,6 +28,9 @@ pub fn locate_for(image: &[u8], release: u32, kernel: u32, out: &mut [u64; 17]) 
         × (out.new ≡ layout_numbers (launch.answer release kernel image.now)) }
 {
     let found = boot_launch::locate_for(release, kernel, image);
-    *out = located_answer(found);
-    number_of(found)
+    *out = located_answer(found.ok());
+    match found {
+        Ok(_) => 0,
+        Err(refusal) => refusal.number(),
+    }
 }

@@ -12,10 +12,7 @@ ghost use Rattle.sparse_write_rules.specs.Write as writer;
 ghost use Rattle.tarpaulark_numbers.specs.Numbers.{verdict_numbers, count_numbers, chunk_in, chunk_numbers, header_numbers_by};
 
 use sparse_rules::Cursor;
-use tarpaulark_numbers::{
-    chunk_answer, chunk_number, cut_answer, cut_number, header_answer, verdict_answer,
-    verdict_number, written_answer, written_number,
-};
+use tarpaulark_numbers::{chunk_answer, count_answer, header_answer, number_of, verdict_answer};
 
 // Judges an image for a partition of so many bytes.
 pub fn judge(image: &[u8], partition_len: u64, out: &mut [u64; 4]) -> u32
@@ -24,7 +21,7 @@ pub fn judge(image: &[u8], partition_len: u64, out: &mut [u64; 4]) -> u32
 {
     let verdict = sparse_judge::judge(image, partition_len);
     *out = verdict_answer(verdict);
-    verdict_number(verdict)
+    number_of(&verdict)
 }
 
 // Reads the file header of an image, for a partition of so many bytes. The array is all 0 for a refusal.
@@ -32,13 +29,16 @@ pub fn header(image: &[u8], partition_len: u64, out: &mut [u64; 6]) -> u32
     ensures { (result ≡ first (header_tests image.now (length image.now) partition_len))
         × (out.new ≡ header_numbers_by result (header_of image.now)) }
 {
-    let number = sparse_read::header_refusal(image, partition_len);
-    if number != 0 {
-        *out = [0; 6];
-        return number;
+    match sparse_read::checked_header(image, partition_len) {
+        Ok(header) => {
+            *out = header_answer(header);
+            0
+        }
+        Err(refusal) => {
+            *out = [0; 6];
+            refusal.number
+        }
     }
-    *out = header_answer(sparse_read::read_header(image));
-    number
 }
 
 // Reads the chunk at an offset of an image, whose first block is given, by the image's own header.
@@ -53,7 +53,7 @@ pub fn chunk(image: &[u8], at: u64, first: u32, out: &mut [u64; 6]) -> u32
     };
     let read = sparse_read::read_chunk(image, header, cursor);
     *out = chunk_answer(read);
-    chunk_number(read)
+    number_of(&read)
 }
 
 // Stores an image on a partition.
@@ -64,7 +64,7 @@ pub fn store(image: &[u8], partition: &mut [u8], out: &mut [u64; 4]) -> u32
 {
     let verdict = sparse_store::store(image, partition);
     *out = verdict_answer(verdict);
-    verdict_number(verdict)
+    number_of(&verdict)
 }
 
 // Stores an image up to a limit of stored blocks.
@@ -74,8 +74,8 @@ pub fn store_limited(image: &[u8], partition: &mut [u8], limit: u64, out: &mut [
         × (partition.new ≡ store_up_to limit image.now partition.old) }
 {
     let stored = sparse_store::store_limited(image, partition, limit);
-    *out = cut_answer(stored);
-    cut_number(stored)
+    *out = count_answer(stored);
+    number_of(&stored)
 }
 
 // Writes the sparse image of flat bytes.
@@ -84,7 +84,7 @@ pub fn write(flat: &[u8], block_size: u32, image: &mut [u8], out: &mut [u64; 2])
         × (out.new ≡ count_numbers (writer.answer flat.now block_size (length image.old)))
         × (image.new ≡ writer.output flat.now block_size image.old) }
 {
-    let written = sparse_write::write(flat, block_size, image);
-    *out = written_answer(written);
-    written_number(written)
+    let written = sparse_write::write(flat, block_size, image).map(|len| len as u64);
+    *out = count_answer(written);
+    number_of(&written)
 }

@@ -1,10 +1,10 @@
 -- The answers as numbers: what is left in the lent array of fixed length. What is returned is `number_of`, 0 or the
 -- refusal's number. Assumes nothing.
-use Rattle.std.specs.Prelude.{cond, List, [], ◌∷◌, ◌++◌, ℕ, eqb, length, replicate}
+use Rattle.std.specs.Prelude.{cond, List, [], ◌∷◌, ◌++◌, ℕ, eqb, length, replicate, Option, Some, None}
 use Rattle.rules.specs.Answer.{Answer, accepted, refused}
 use Rattle.boot_rules.specs.declared.Section.{Section}
 use Rattle.boot_rules.specs.declared.Layout.{Layout}
-use Rattle.boot_rules.specs.Sections.{sections_in}
+use Rattle.boot_rules.specs.Sections.{present, position_of, size_of, sections_in}
 use Rattle.slot_bytes.specs.Record.{flag}
 use Rattle.sparse_rules.specs.declared.Header.{Header}
 use Rattle.sparse_rules.specs.declared.Kind.{Kind}
@@ -55,11 +55,11 @@ abbrev pub header_numbers_by : ℕ → Header → List ℕ
 header_numbers_by n h = cond (eqb n 0) (header_numbers h) (replicate 6 0)
 
 -- a section: whether the version has it, "the position and size"
-abbrev pub section_of : Section → List ℕ
-section_of x = flag x.present ∷ x.position ∷ x.size ∷ []
+abbrev pub section_of : Option Section → List ℕ
+section_of x = flag (present x) ∷ position_of x ∷ size_of x ∷ []
 
 -- sections in their order, three numbers each
-abbrev pub section_numbers : List Section → List ℕ
+abbrev pub section_numbers : List (Option Section) → List ℕ
 section_numbers [] = []
 section_numbers (x ∷ xs) = section_of x ++ section_numbers xs
 
@@ -71,3 +71,8 @@ found_numbers l = l.version ∷ (section_numbers (sections_in l) ++ (flag l.reti
 abbrev pub layout_numbers : Answer Layout → List ℕ
 layout_numbers (accepted l) = found_numbers l
 layout_numbers (refused n place) = replicate 17 0
+
+-- the same by the layout, all 0 where there is none
+abbrev pub offered_numbers : Option Layout → List ℕ
+offered_numbers (Some l) = found_numbers l
+offered_numbers None = replicate 17 0

@@ -3,28 +3,23 @@
 
 ghost use Rattle.std.specs.Prelude.{◌≡◌};
 ghost use Rattle.rules.specs.Answer.{number_of};
-ghost use Rattle.boot_rules.specs.Tests as boot;
 ghost use Rattle.sparse_rules.specs.Chunks.{chunk};
 ghost use Rattle.sparse_rules.specs.Answers.{answer_of, reading_of};
-ghost use Rattle.sparse_store_rules.specs.Answers.{cut_answer_of};
-ghost use Rattle.sparse_write_rules.specs.Write as writer;
 ghost use Rattle.sparse_blocks_rules.specs.Pairs as pairs;
-ghost use Rattle.tarpaulark_numbers.specs.Numbers.{verdict_numbers, count_numbers, pair_numbers, kind_number, chunk_numbers, header_numbers, section_of, found_numbers, layout_numbers};
+ghost use Rattle.tarpaulark_numbers.specs.Numbers.{verdict_numbers, count_numbers, pair_numbers, kind_number, chunk_numbers, header_numbers, section_of, found_numbers, offered_numbers};
 
-use boot_rules::{Layout, Located, Section};
+use boot_rules::{Layout, Section};
 use slot_bytes::flag_byte;
-use sparse_blocks_rules::Paired;
-use sparse_rules::{Chunk, ChunkRead, Cursor, Header, Kind, Verdict};
-use sparse_store_rules::Stored;
-use sparse_write_rules::Outcome;
+use sparse_blocks_rules::{PairRefusal, Paired};
+use sparse_rules::{Chunk, ChunkRead, Cursor, Header, Kind, Refusal, Verdict};
 
-// The number that a verdict returns.
-pub fn verdict_number(v: Verdict) -> u32
-    ensures { result ≡ number_of (answer_of v) }
+// The number that an answer returns: 0, or its refusal's.
+pub fn number_of<T>(answer: &Result<T, Refusal>) -> u32
+    ensures { result ≡ number_of (answer_of answer.now) }
 {
-    match v {
-        Verdict::Accepted(_) => 0,
-        Verdict::Refused(f) => f.number,
+    match answer {
+        Ok(_) => 0,
+        Err(f) => f.number,
     }
 }
 
@@ -33,8 +28,8 @@ pub fn verdict_answer(v: Verdict) -> [u64; 4]
     ensures { result ≡ verdict_numbers (answer_of v) }
 {
     match v {
-        Verdict::Accepted(c) => [0, c.written as u64, c.dont_care as u64, c.unknown as u64],
-        Verdict::Refused(f) => [f.place, 0, 0, 0],
+        Ok(c) => [0, c.written as u64, c.dont_care as u64, c.unknown as u64],
+        Err(f) => [f.place, 0, 0, 0],
     }
 }
 
@@ -52,7 +47,7 @@ pub fn header_answer(h: Header) -> [u64; 6]
     ]
 }
 
-// A kind as a number.
+// A kind as a number. Kept by hand: they are C's numbers, of which the crate of Kind knows nothing.
 fn kind_number(k: Kind) -> u64
     ensures { result ≡ kind_number k }
 {
@@ -61,16 +56,6 @@ fn kind_number(k: Kind) -> u64
         Kind::Fill => 1,
         Kind::DontCare => 2,
         Kind::Unknown => 3,
-    }
-}
-
-// The number that the chunk reader returns.
-pub fn chunk_number(r: ChunkRead) -> u32
-    ensures { result ≡ number_of (reading_of r) }
-{
-    match r {
-        ChunkRead::Chunk(_, _) => 0,
-        ChunkRead::Refused(f) => f.number,
     }
 }
 
@@ -95,48 +80,18 @@ pub fn chunk_answer(r: ChunkRead) -> [u64; 6]
     ensures { result ≡ chunk_numbers (reading_of r) }
 {
     match r {
-        ChunkRead::Chunk(k, next) => read_answer(k, next),
-        ChunkRead::Refused(f) => [f.place, 0, 0, 0, 0, 0],
+        Ok((k, next)) => read_answer(k, next),
+        Err(f) => [f.place, 0, 0, 0, 0, 0],
     }
 }
 
-// The number that the cut form returns.
-pub fn cut_number(s: Stored) -> u32
-    ensures { result ≡ number_of (cut_answer_of s) }
+// The place of an answer that counts, and its count: the cut form's blocks stored, or the length of the writer's image.
+pub fn count_answer(answer: Result<u64, Refusal>) -> [u64; 2]
+    ensures { result ≡ count_numbers (answer_of answer) }
 {
-    match s {
-        Stored::Blocks(_) => 0,
-        Stored::Refused(f) => f.number,
-    }
-}
-
-// The cut form's place and blocks stored.
-pub fn cut_answer(s: Stored) -> [u64; 2]
-    ensures { result ≡ count_numbers (cut_answer_of s) }
-{
-    match s {
-        Stored::Blocks(n) => [0, n],
-        Stored::Refused(f) => [f.place, 0],
-    }
-}
-
-// The number that the writer returns.
-pub fn written_number(w: Outcome) -> u32
-    ensures { result ≡ number_of (writer.answer_of w) }
-{
-    match w {
-        Outcome::Written(_) => 0,
-        Outcome::Refused(f) => f.number,
-    }
-}
-
-// The writer's place and the image's length.
-pub fn written_answer(w: Outcome) -> [u64; 2]
-    ensures { result ≡ count_numbers (writer.answer_of w) }
-{
-    match w {
-        Outcome::Written(n) => [0, n as u64],
-        Outcome::Refused(f) => [f.place, 0],
+    match answer {
+        Ok(n) => [0, n],
+        Err(f) => [f.place, 0],
     }
 }
 
@@ -145,8 +100,10 @@ pub fn paired_number(p: Paired) -> u32
     ensures { result ≡ number_of (pairs.answer_of p) }
 {
     match p {
-        Paired::Done(_) => 0,
-        Paired::Refused(_, f) => f.number,
+        Ok(_) => 0,
+        Err(PairRefusal::First(f) | PairRefusal::Second(f)) => f.number,
+        Err(PairRefusal::Geometry) => 17,
+        Err(PairRefusal::Space) => 18,
     }
 }
 
@@ -155,17 +112,21 @@ pub fn paired_answer(p: Paired) -> [u64; 3]
     ensures { result ≡ pair_numbers (pairs.image_of p) (pairs.answer_of p) }
 {
     match p {
-        Paired::Done(n) => [0, 0, n as u64],
-        Paired::Refused(image, f) => [f.place, image as u64, 0],
+        Ok(n) => [0, 0, n as u64],
+        Err(PairRefusal::First(f)) => [f.place, 1, 0],
+        Err(PairRefusal::Second(f)) => [f.place, 2, 0],
+        Err(PairRefusal::Geometry | PairRefusal::Space) => [0, 0, 0],
     }
 }
 
 // A section: whether it is present, its position and its size.
-fn section_answer(s: Section) -> [u64; 3]
-    ensures { result ≡ section_of s }
+fn section_answer(room: Option<Section>) -> [u64; 3]
+    ensures { result ≡ section_of room }
 {
-    let present = flag_byte(s.present);
-    [present as u64, s.position, s.size as u64]
+    match room {
+        Some(s) => [1, s.position, s.size as u64],
+        None => [0, 0, 0],
+    }
 }
 
 // A layout: its version, the five sections that are offered, and whether a retired one is present.
@@ -199,12 +160,12 @@ pub fn layout_answer(l: Layout) -> [u64; 17]
     ]
 }
 
-// What the finder of sections answers: all 0 for a refusal.
-pub fn located_answer(a: Located) -> [u64; 17]
-    ensures { result ≡ layout_numbers (boot.answer_of a) }
+// What the finder of sections answers: all 0 for a refusal, which has no layout.
+pub fn located_answer(found: Option<Layout>) -> [u64; 17]
+    ensures { result ≡ offered_numbers found }
 {
-    match a {
-        Located::Found(l) => layout_answer(l),
-        Located::Refused(_) => [0; 17],
+    match found {
+        Some(l) => layout_answer(l),
+        None => [0; 17],
     }
 }

@@ -12,7 +12,7 @@ ghost use Rattle.tarpaulark_passes.specs.Handed.{Held, Handed, HandedAnswer};
 use sparse_stream::Finished;
 use sparse_stream_bytes::{pass_bytes, pass_of};
 use sparse_stream_rules::Pass;
-use tarpaulark_numbers::{verdict_answer, verdict_number};
+use tarpaulark_numbers::{number_of, verdict_answer};
 
 // Hands over what a call with a piece made of the pass.
 fn hand_over(x: Pass, bytes: &mut [u8; 112], out: &mut [u64; 1]) -> u32
@@ -27,7 +27,8 @@ fn hand_over(x: Pass, bytes: &mut [u8; 112], out: &mut [u64; 1]) -> u32
     x.refusal.number
 }
 
-// Hands over what a call that finishes made of the pass.
+// Hands over what a call that finishes made of the pass. Kept beside hand_over: the two share one line, and answer by two
+// definitions.
 fn hand_over_answer(f: Finished, bytes: &mut [u8; 112], out: &mut [u64; 4]) -> u32
     requires { answer_of f.verdict ≡ answer_now f.pass }
     ensures { HandedAnswer f.pass result out.new bytes.new }
@@ -36,7 +37,7 @@ fn hand_over_answer(f: Finished, bytes: &mut [u8; 112], out: &mut [u64; 4]) -> u
     let verdict = f.verdict;
     *bytes = pass_bytes(pass);
     *out = verdict_answer(verdict);
-    verdict_number(verdict)
+    number_of(&verdict)
 }
 
 // Begins a pass over an image of so many bytes, for a partition of so many bytes.

@@ -9,15 +9,14 @@ use lib.Seq.{ext_get_or}
 use Rattle.sparse_rules.specs.Cells.{tab}
 use Rattle.sparse_rules.proofs.Cells.{get_or-tab}
 use Rattle.report_rules.specs.declared.Report.{Report}
-use Rattle.report_rules.specs.declared.Counted.{Counted}
-use Rattle.report_rules.specs.Reports.{report_of, added}
+use Rattle.report_rules.specs.Reports.{Counted, report_of, added}
 use Rattle.report_rules.proofs.One.{counted_one}
 use Rattle.report_rules.proofs.Adding.{added_same}
 use Rattle.tarpaulark_report.specs.Numbers.{report_numbers, report_in, Promises}
 
 -- what is handed over of an answer
-pub handed : {d e : Counted} {ns : List ℕ} → d ≡ e → ns ≡ report_numbers d.report → (d.number ≡ e.number) × (ns ≡ report_numbers e.report)
-handed p q = (ap (λ (c : Counted). c.number) p, q ∙ ap (λ (c : Counted). report_numbers c.report) p)
+pub handed : {d e : Counted} {n : ℕ} {ns : List ℕ} → d ≡ e → (n ≡ d.number) × (ns ≡ report_numbers d.report) → (n ≡ e.number) × (ns ≡ report_numbers e.report)
+handed p q = (q.0 ∙ ap (λ (c : Counted). c.number) p, q.1 ∙ ap (λ (c : Counted). report_numbers c.report) p)
 
 -- the report in an array has that array
 same_numbers : (ns : List ℕ) → length ns ≡ 16 → report_numbers (report_in ns) ≡ ns

@@ -2,10 +2,10 @@
 #![tactic(auto)]
 
 ghost use Rattle.std.specs.Prelude.{◌≡◌};
-ghost use Rattle.report_rules.specs.Reports.{added, counted};
+ghost use Rattle.report_rules.specs.Reports.{added, counted_of, counted};
 ghost use Rattle.tarpaulark_report.specs.Numbers.{report_numbers, report_in};
 
-use report_rules::Report;
+use report_rules::{Overflow, Report};
 
 // How many numbers a report has.
 pub const REPORT: usize = 16;
@@ -38,16 +38,27 @@ fn numbers_of(r: Report) -> [u64; REPORT]
     ]
 }
 
+// Writes what counting or adding answers into the array: 0, or 61 with the report as it was.
+fn hand_over(answer: Result<Report, Overflow>, numbers: &mut [u64; REPORT]) -> u32
+    ensures { (result ≡ (counted_of answer).number) × (numbers.new ≡ report_numbers (counted_of answer).report) }
+{
+    let (number, report) = match answer {
+        Ok(report) => (0, report),
+        Err(overflow) => (61, overflow.report),
+    };
+    *numbers = numbers_of(report);
+    number
+}
+
 // Counts an image, judged for a partition of so many bytes: 0, or 61 and the report stays.
 pub fn count(report: &mut [u64; REPORT], image: &[u8], partition_len: u64) -> u32
     ensures { (result ≡ (counted (report_in report.old) (record { image = image.now; room = partition_len })).number)
         × (report.new ≡ report_numbers (counted (report_in report.old) (record { image = image.now; room = partition_len })).report) }
 {
-    let given = *report;
-    let counted = report::count(report_in(given), image, partition_len);
-    let after = counted.report;
-    *report = numbers_of(after);
-    counted.number
+    hand_over(
+        report::count(report_in(*report), image, partition_len),
+        report,
+    )
 }
 
 // Adds another report: 0, or 61 and both stay.
@@ -55,10 +66,5 @@ pub fn add(report: &mut [u64; REPORT], other: &[u64; REPORT]) -> u32
     ensures { (result ≡ (added (report_in report.old) (report_in other.now)).number)
         × (report.new ≡ report_numbers (added (report_in report.old) (report_in other.now)).report) }
 {
-    let given = *report;
-    let more = *other;
-    let sum = report::add(report_in(given), report_in(more));
-    let after = sum.report;
-    *report = numbers_of(after);
-    sum.number
+    hand_over(report::add(report_in(*report), report_in(*other)), report)
 }

@@ -1,8 +1,7 @@
 // Runs the cases of data/ through the libraries and prints a line for each.
 //
-// The arguments are the files of the groups, in the order of the constants below. The cases and the lines that must
-// come out are made by tests/reference/vectors.py, which says how a case is laid out; nothing here knows what a
-// right answer is.
+// The arguments are the files of the groups, in the order of `main`. The cases and the lines that must come out are
+// made by tests/reference/vectors.py, which says how a case is laid out; nothing here knows what a right answer is.
 #![tactic(auto)]
 
 mod crc_cases;
@@ -16,83 +15,73 @@ mod start_cases;
 mod store_cases;
 mod support;
 
+use std::env::Args;
 use std::fs::File;
 use std::io::{Read, Write};
+use std::rt::Runtime;
 use std::{env, io};
-use support::{part, past, value};
+use support::Cases;
 
-// The groups of cases.
-const CRC: usize = 1;
-
-const FIELDS: usize = 2;
-
-const SLOTS: usize = 3;
-
-const SLOT_BLOCKS: usize = 4;
-
-const BOOT: usize = 5;
-
-const LAUNCH: usize = 6;
-
-const START: usize = 7;
-
-const SPARSE: usize = 8;
-
-const STORE: usize = 9;
-
-const PASSES: usize = 10;
-
-const WRITE: usize = 11;
-
-const COMPARE: usize = 12;
-
-const JOIN: usize = 13;
-
-const REPORT: usize = 14;
-
-// The lines of a group's cases, one after the other: the group's name, the case's number, its values.
-fn cases(line: &mut impl Write, group: usize, name: &[u8], file: &[u8]) -> io::Result<()> {
-    let mut at: usize = 0;
-    let mut index: u64 = 0;
-    while at < file.len() {
+// The lines of a group's cases, one after the other: the group's name, the case's number, its values. Each case takes a byte
+// at least, so there are no more of them than bytes.
+fn print<W: Write, F: Fn(&mut W, &mut Cases<'_>) -> io::Result<()>>(
+    line: &mut W,
+    name: &[u8],
+    file: &[u8],
+    case: F,
+) -> io::Result<()>
+    requires { F.IsAlwaysCallable case }
+{
+    let mut cases = Cases::new(file);
+    for index in 0..file.len() {
+        if cases.is_empty() {
+            break;
+        }
         line.write_all(name)?;
-        value(line, index)?;
-        let rest = part(file, at, file.len());
-        let len = match group {
-            CRC => crc_cases::case(line, rest)?,
-            FIELDS => field_cases::case(line, rest)?,
-            SLOTS => slot_cases::case(line, rest)?,
-            SLOT_BLOCKS => slot_cases::block(line, rest)?,
-            BOOT => image_cases::boot(line, rest)?,
-            LAUNCH => image_cases::launch(line, rest)?,
-            START => start_cases::case(line, rest)?,
-            SPARSE => image_cases::sparse(line, rest)?,
-            STORE | PASSES => store_cases::case(line, rest)?,
-            WRITE => image_cases::write(line, rest)?,
-            COMPARE => pair_cases::block(line, rest, 16, false)?,
-            JOIN => pair_cases::block(line, rest, 32, true)?,
-            _ => report_cases::case(line, rest)?,
-        };
+        write!(line, " {index}")?;
+        case(line, &mut cases)?;
         line.write_all(b"\n")?;
-        at = past(file, at, len);
-        index = index + 1;
     }
     Ok(())
 }
 
-// The groups, each from its file, whose name is the group's and `.bin`. As much of a file is read as room has.
-fn main(rt: HostRuntime) -> io::Result<()> {
-    let mut line = rt.stdout();
-    for group in CRC..REPORT + 1 {
-        let Some(path) = env::args(&rt)?.nth(group) else {
-            return Ok(());
-        };
-        let mut file = Vec::new(rt.alloc());
-        File::open(&rt, &path)?.take(262144).read_to_end(&mut file)?;
-        let name = path.as_bytes();
-        if 4 <= name.len() {
-            cases(&mut line, group, part(name, 0, name.len() - 4), &file)?;
-        }
+// Prints a group, from the file that the next argument names: the group's name and `.bin`. As much of it is read as room has.
+fn group<R: Runtime, W: Write, F: Fn(&mut W, &mut Cases<'_>) -> io::Result<()>>(
+    rt: &R,
+    paths: &mut Args<R::A>,
+    line: &mut W,
+    case: F,
+) -> io::Result<()>
+    requires { F.IsAlwaysCallable case }
+{
+    let Some(path) = paths.next() else {
+        return Ok(());
+    };
+    let mut file = Vec::new(rt.alloc());
+    File::open(rt, &path)?.take(262144).read_to_end(&mut file)?;
+    let name = path.as_bytes();
+    if let Some(end) = name.len().checked_sub(4) {
+        print(line, &name[..end], &file, case)?;
     }
     Ok(())
+}
+
+fn main(rt: HostRuntime) -> io::Result<()> {
+    let mut paths = env::args(&rt)?;
+    paths.next();
+    let mut line = rt.stdout();
+    group(&rt, &mut paths, &mut line, crc_cases::case)?;
+    group(&rt, &mut paths, &mut line, field_cases::case)?;
+    group(&rt, &mut paths, &mut line, slot_cases::case)?;
+    group(&rt, &mut paths, &mut line, slot_cases::block)?;
+    group(&rt, &mut paths, &mut line, image_cases::boot)?;
+    group(&rt, &mut paths, &mut line, image_cases::launch)?;
+    group(&rt, &mut paths, &mut line, start_cases::case)?;
+    group(&rt, &mut paths, &mut line, image_cases::sparse)?;
+    group(&rt, &mut paths, &mut line, store_cases::case)?;
+    group(&rt, &mut paths, &mut line, store_cases::case)?;
+    group(&rt, &mut paths, &mut line, image_cases::write)?;
+    group(&rt, &mut paths, &mut line, pair_cases::compared)?;
+    group(&rt, &mut paths, &mut line, pair_cases::joined)?;
+    group(&rt, &mut paths, &mut line, report_cases::case)
 }

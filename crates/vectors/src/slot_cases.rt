@@ -1,16 +1,42 @@
 // The slot record: every operation on the bytes of a record.
-use crate::support::{part, value};
+use crate::support::{Cases, Sum};
 use std::io;
 use std::io::Write;
 
 // The bytes of a record.
 const RECORD: usize = 22;
 
-// The bytes of a case: operation, argument, record.
-const CASE: usize = 24;
+// How many records a block has at most.
+const BLOCK: usize = 64;
 
 // How many values an operation has.
 const VALUES: usize = 25;
+
+// An operation on a record, in the order of their numbers.
+#[derive(Clone, Copy)]
+enum Operation {
+    Fresh,
+    Start,
+    SetActive,
+    Modified,
+    Confirm,
+    Corrupted,
+    Startable,
+}
+
+impl From<u8> for Operation {
+    fn from(number: u8) -> Operation {
+        match number {
+            0 => Operation::Fresh,
+            1 => Operation::Start,
+            2 => Operation::SetActive,
+            3 => Operation::Modified,
+            4 => Operation::Confirm,
+            5 => Operation::Corrupted,
+            _ => Operation::Startable,
+        }
+    }
+}
 
 // The values of an operation, a byte each: number, kind, slot or count, and the record after.
 fn gathered(number: u32, kind: &[u64; 2], record: &[u8; RECORD]) -> [u8; VALUES] {
@@ -30,53 +56,55 @@ fn startable(record: &[u8; RECORD], kind: &mut [u64; 2]) -> u32 {
     number
 }
 
-// What an operation on the record that bytes hold answers and leaves.
-fn outcome(operation: u32, argument: u32, bytes: &[u8]) -> [u8; VALUES] {
-    let mut record = [0u8; RECORD];
-    fields_write::copy(&mut record, 0, bytes);
+// What an operation on a record answers and leaves.
+fn outcome(operation: Operation, argument: u8, before: &[u8; RECORD]) -> [u8; VALUES] {
+    let argument = argument as u32;
+    let mut record = *before;
     let mut kind = [0u64; 2];
     let number = match operation {
-        0 => tarpaulark::tarpaulark_slots_fresh(argument, &mut record, &mut kind),
-        1 => tarpaulark::tarpaulark_slots_start(&mut record, &mut kind),
-        2 => tarpaulark::tarpaulark_slots_set_active(&mut record, argument, &mut kind),
-        3 => tarpaulark::tarpaulark_slots_modified(&mut record, argument, &mut kind),
-        4 => tarpaulark::tarpaulark_slots_confirm(&mut record, &mut kind),
-        5 => tarpaulark::tarpaulark_slots_corrupted(&mut record, argument, &mut kind),
-        _ => startable(&record, &mut kind),
+        Operation::Fresh => tarpaulark::tarpaulark_slots_fresh(argument, &mut record, &mut kind),
+        Operation::Start => tarpaulark::tarpaulark_slots_start(&mut record, &mut kind),
+        Operation::SetActive => {
+            tarpaulark::tarpaulark_slots_set_active(&mut record, argument, &mut kind)
+        }
+        Operation::Modified => {
+            tarpaulark::tarpaulark_slots_modified(&mut record, argument, &mut kind)
+        }
+        Operation::Confirm => tarpaulark::tarpaulark_slots_confirm(&mut record, &mut kind),
+        Operation::Corrupted => {
+            tarpaulark::tarpaulark_slots_corrupted(&mut record, argument, &mut kind)
+        }
+        Operation::Startable => startable(&record, &mut kind),
     };
     gathered(number, &kind, &record)
 }
 
-// Prints the values of the case at the start of rest, and answers how many bytes it takes.
-pub(crate) fn case(line: &mut impl Write, rest: &[u8]) -> io::Result<usize> {
-    let head = fields_read::read16(rest, 0) as u32;
-    let all = outcome(head % 256, head / 256, part(rest, 2, RECORD));
-    for i in 0usize..VALUES {
-        value(line, all[i] as u64)?;
+// Prints the values of the next case.
+pub(crate) fn case(line: &mut impl Write, cases: &mut Cases<'_>) -> io::Result<()> {
+    let [operation, argument]: [u8; 2] = cases.array();
+    for n in outcome(Operation::from(operation), argument, &cases.array()) {
+        write!(line, " {n}")?;
     }
-    Ok(CASE)
+    Ok(())
 }
 
-// The checksum's state after the values of the seven operations, each with the arguments 0 to 4, on the record.
-fn summed(state: u32, record: &[u8]) -> u32 {
-    let mut now = state;
-    let mut n: u32 = 0;
-    while n < 35 {
-        now = crc32::update(now, &outcome(n / 5, n % 5, record));
-        n = n + 1;
+// Goes on with the values of the seven operations, each with the arguments 0 to 4, on the record.
+fn add_outcomes(sum: &mut Sum, record: &[u8; RECORD]) {
+    for operation in 0u8..7 {
+        for argument in 0u8..5 {
+            sum.add(&outcome(Operation::from(operation), argument, record));
+        }
     }
-    now
 }
 
-// Prints the checksum over the up to 64 records at the start of rest, and answers how many bytes they take.
-pub(crate) fn block(line: &mut impl Write, rest: &[u8]) -> io::Result<usize> {
-    let records = part(rest, 0, 64 * RECORD);
-    let mut state = crc32::start();
-    let mut done: usize = 0;
-    while done < records.len() {
-        state = summed(state, part(records, done, RECORD));
-        done = done + RECORD;
+// Prints the checksum over the next records, up to a block of them.
+pub(crate) fn block(line: &mut impl Write, cases: &mut Cases<'_>) -> io::Result<()> {
+    let mut sum = Sum::new();
+    for _ in 0..BLOCK {
+        if cases.is_empty() {
+            break;
+        }
+        add_outcomes(&mut sum, &cases.array());
     }
-    value(line, crc32::finish(state) as u64)?;
-    Ok(64 * RECORD)
+    write!(line, " {}", sum.finish())
 }

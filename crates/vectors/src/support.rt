@@ -1,99 +1,129 @@
-// What every group of cases uses: parts of its file, the values of a line, and images, which are kept as patches
-// over zeros.
-ghost use Rattle.std.specs.Prelude.{◌≡◌, ◌<◌, length};
-ghost use Rattle.io.specs.Counts.{IsPrefixLen};
-
+// What every group of cases uses: a reader of its file, what fills a buffer, the checksum of what comes out, the numbers
+// of an answer, and images, which are kept as patches over zeros.
 use std::io;
 use std::io::Write;
 
-// The `len` bytes of file at `at`, or as many of them as there are.
-pub(crate) fn part(file: &[u8], at: usize, len: usize) -> &[u8] {
-    if file.len() < at {
-        return &file[..0];
-    }
-    if file.len() - at < len {
-        return &file[at..];
-    }
-    let end = at + len;
-    &file[at..end]
+// How many bytes an image has at most.
+pub(crate) const IMAGE: usize = 65536;
+
+// The bytes of a file that are still to be read, case by case. Past the last of them, numbers read are of zero bytes.
+#[derive(Clone, Copy)]
+pub(crate) struct Cases<'a> {
+    bytes: &'a [u8],
 }
 
-// The place `by` bytes past `at`, or the end of file: past `at` in any case.
-pub(crate) fn past(file: &[u8], at: usize, by: usize) -> usize
-    ensures { at < length file.now → at < result }
+impl<'a> Cases<'a> {
+    // All bytes of a file.
+    pub(crate) fn new(bytes: &'a [u8]) -> Cases<'a> {
+        Cases { bytes }
+    }
+
+    // Whether nothing is left.
+    pub(crate) fn is_empty(&self) -> bool {
+        self.bytes.is_empty()
+    }
+
+    // Takes the next `len` bytes, or as many of them as there are.
+    pub(crate) fn take(&mut self, len: usize) -> &'a [u8] {
+        let (taken, left) = self.bytes.split_at(len.min(self.bytes.len()));
+        self.bytes = left;
+        taken
+    }
+
+    // What is left from `place` bytes on.
+    pub(crate) fn at(mut self, place: usize) -> Cases<'a> {
+        self.take(place);
+        self
+    }
+
+    // What is left past a case of `size` bytes: nothing, where it would not get on.
+    pub(crate) fn after(self, size: usize) -> Cases<'a> {
+        if size == 0 {
+            return Cases { bytes: &[] };
+        }
+        self.at(size)
+    }
+
+    // Takes the next bytes into an array, over zeros.
+    pub(crate) fn array<const N: usize>(&mut self) -> [u8; N] {
+        let mut bytes = [0; N];
+        fields_write::copy(&mut bytes, 0, self.take(N));
+        bytes
+    }
+
+    // Takes a number of 16 bits.
+    pub(crate) fn u16(&mut self) -> u16 {
+        fields_read::read16(self.take(2), 0)
+    }
+
+    // Takes a number of 32 bits.
+    pub(crate) fn u32(&mut self) -> u32 {
+        fields_read::read32(self.take(4), 0)
+    }
+
+    // Takes a number of 64 bits.
+    pub(crate) fn u64(&mut self) -> u64 {
+        fields_read::read64(self.take(8), 0)
+    }
+
+    // Takes a length or a place, of 32 bits.
+    pub(crate) fn size(&mut self) -> usize {
+        self.u32() as usize
+    }
+
+    // Builds the image over zeros whose form comes next: length, number of patches, and each patch with its offset.
+    pub(crate) fn image<'b>(&mut self, room: &'b mut [u8; IMAGE]) -> &'b [u8] {
+        let len = self.size();
+        for _ in 0..self.u32() {
+            let offset = self.size();
+            let count = self.size();
+            fields_write::copy(room, offset, self.take(count));
+        }
+        &room[..len.min(IMAGE)]
+    }
+}
+
+// Fills a buffer with numbers that begin with `first`, each made of the one before it.
+pub(crate) fn fill<T: Copy, F: Fn(T) -> T>(out: &mut [T], first: T, next: F)
+    requires { F.IsAlwaysCallable next }
 {
-    if at < file.len() {
-        if by < file.len() - at {
-            if 0 < by {
-                return at + by;
-            }
+    let mut number = first;
+    for place in out {
+        *place = number;
+        number = next(number);
+    }
+}
+
+// The checksum of what comes out, in the making.
+#[derive(Clone, Copy)]
+pub(crate) struct Sum {
+    state: u32,
+}
+
+impl Sum {
+    // No bytes yet.
+    pub(crate) fn new() -> Sum {
+        Sum {
+            state: crc32::start(),
         }
     }
-    file.len()
-}
 
-// How many bytes of a buffer so many fill.
-pub(crate) fn least(len: usize, buf: &[u8]) -> usize
-    ensures { IsPrefixLen result buf.now }
-{
-    if len < buf.len() { len } else { buf.len() }
-}
+    // Goes on with these bytes.
+    pub(crate) fn add(&mut self, bytes: &[u8]) {
+        self.state = crc32::update(self.state, bytes);
+    }
 
-// 262,144 zeros: room for a file of cases, and for the longest output.
-pub(crate) fn room() -> [u8; 262144]
-    ensures { 262144 ≡ length result }
-{
-    [0; 262144]
-}
-
-// Fills a buffer with bytes that begin with one and go up by a step each time.
-pub(crate) fn prepare(out: &mut [u8], first: u8, step: u8) {
-    let mut b = first;
-    let mut i: usize = 0;
-    while i < out.len() {
-        out[i] = b;
-        b = std::num::wrapping_add_u8(b, step);
-        i = i + 1;
+    // The checksum of all bytes so far.
+    pub(crate) fn finish(&self) -> u32 {
+        crc32::finish(self.state)
     }
 }
 
-// Prints a value of the line, after a space.
-pub(crate) fn value(line: &mut impl Write, n: u64) -> io::Result<()> {
-    write!(line, " {n}")
-}
-
-// What numbers from a place on make of a checksum's state, 8 bytes each, low byte first.
-pub(crate) fn numbers_on(state: u32, numbers: &[u64], from: usize) -> u32 {
-    let mut after = state;
-    for i in from..numbers.len() {
-        let mut bytes = [0u8; 8];
-        fields_write::write64(&mut bytes, 0, numbers[i]);
-        after = crc32::update(after, &bytes);
+// Prints an answer: the number of the refusal, and the numbers of the array beside it.
+pub(crate) fn answer(line: &mut impl Write, number: u32, out: &[u64]) -> io::Result<()> {
+    write!(line, " {number}")?;
+    for n in out {
+        write!(line, " {n}")?;
     }
-    after
-}
-
-// Prints the number of a verdict, its place, and the blocks written, don't care and unknown.
-pub(crate) fn verdict(line: &mut impl Write, number: u32, out: &[u64; 4]) -> io::Result<()> {
-    value(line, number as u64)?;
-    value(line, out[0])?;
-    value(line, out[1])?;
-    value(line, out[2])?;
-    value(line, out[3])
-}
-
-// Builds an image over zeros from its form: length, number of patches, and each patch with its offset.
-// Answers how many bytes the form takes.
-pub(crate) fn build(form: &[u8], out: &mut [u8]) -> usize {
-    let mut at: usize = 8;
-    let mut left = fields_read::read32(form, 4);
-    while 0 < left {
-        let patch = part(form, at, form.len());
-        let count = fields_read::read32(patch, 4) as usize;
-        let bytes = part(patch, 8, count);
-        fields_write::copy(out, fields_read::read32(patch, 0) as usize, bytes);
-        at = past(form, at, 8 + count);
-        left = left - 1;
-    }
-    at
+    Ok(())
 }

@@ -19,7 +19,6 @@ use Rattle.sparse_diff_rules.specs.Diff as diff
 use Rattle.sparse_join_rules.specs.Join as join
 use Rattle.sparse_list_rules.specs.Listing.{listing}
 use Rattle.report_rules.specs.declared.Report.{Report}
-use Rattle.report_rules.specs.declared.Counted.{Counted}
 use Rattle.report_rules.specs.Reports as report
 use Rattle.report_rules.specs.Folder as folder
 
@@ -52,7 +51,7 @@ pub data Result : Type 0 where
   printed : List ℕ → Result
   compared : Answer ℕ → ℕ → List ℕ → Result
   joined : Answer ℕ → ℕ → List ℕ → Result
-  reported : Counted → Result
+  reported : report.Counted → Result
 
 -- what a call gives back
 unfoldable pub perform : Call → Result

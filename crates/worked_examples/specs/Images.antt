@@ -1,6 +1,6 @@
 -- The images, flat bytes, records and counts of the examples, typed from documents 01 and 02.
 -- Assumes nothing.
-use Rattle.std.specs.Prelude.{Bool, true, false, List, [], ◌∷◌, ◌++◌, ℕ, zero, suc, ◌-◌, length, replicate}
+use Rattle.std.specs.Prelude.{Bool, true, false, List, [], ◌∷◌, ◌++◌, ℕ, zero, suc, ◌-◌, length, replicate, Option, Some, None}
 use Rattle.fields_rules.specs.Number.{bytes}
 use Rattle.slot_rules.specs.declared.Slot.{Slot}
 use Rattle.slot_rules.specs.declared.Record.{Record}
@@ -116,15 +116,15 @@ boot2 second dtb n =
     ++ (bytes 4 2048 ++ (bytes 4 2 ++ (replicate 1600 0 ++ (bytes 4 1660 ++ (bytes 4 dtb ++ replicate (n - 1652) 0)))))))))))
 
 -- a section of the version: position, size
-abbrev pub section : ℕ → ℕ → Section
-section position size = record { present = true; position = position; size = size }
+abbrev pub section : ℕ → ℕ → Option Section
+section position size = Some (record { position = position; size = size })
 
 -- a section that the version lacks
-abbrev pub none : Section
-none = record { present = false; position = 0; size = 0 }
+abbrev pub none : Option Section
+none = None
 
 -- what is found in an accepted boot image: its version, then kernel, ramdisk, recovery, dtb and signature, and whether a retired section is present
-abbrev pub layout : ℕ → Section → Section → Section → Section → Section → Bool → Layout
+abbrev pub layout : ℕ → Option Section → Option Section → Option Section → Option Section → Option Section → Bool → Layout
 layout version kernel ramdisk recovery dtb signature retired =
     record {
       version = version;

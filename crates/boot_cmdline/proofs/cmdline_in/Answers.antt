@@ -4,4 +4,4 @@ use Rattle.boot_rules.specs.Table.{cmdline}
 use Rattle.boot_cmdline.proofs.cmdline_in.Goals as goal
 
 pub returns : goal.returns
-returns c = ap cmdline c.row_in-row.ensures
+returns c = ap cmdline c.row_in.ensures

@@ -4,4 +4,4 @@ use Rattle.boot_rules.specs.Table.{extra_cmdline}
 use Rattle.boot_cmdline.proofs.extra_in.Goals as goal
 
 pub returns : goal.returns
-returns c = ap extra_cmdline c.row_in-row.ensures
+returns c = ap extra_cmdline c.row_in.ensures

@@ -5,4 +5,4 @@ use Rattle.boot_launch_lines.proofs.put_refused.Goals as goal
 
 pub returns : goal.returns
 unfolding refused_line
-returns c = c.put_single.ensures
+returns c = c.put_line.ensures

@@ -5,4 +5,4 @@ use Rattle.report_rules.proofs.One.{counted_one}
 use Rattle.report.proofs.count.Goals as goal
 
 pub returns : goal.returns
-returns c = c.add.ensures ∙ counted_one _ _ c.report_of-own.ensures
+returns c = c.add.ensures ∙ counted_one _ _ c.report_of.ensures

@@ -5,8 +5,11 @@ use Rattle.report_rules.specs.Folder.{turn_by}
 use Rattle.report_rules.proofs.Folders.{turn_long, turn_counted}
 use Rattle.report_folder.proofs.next.Goals as goal
 
-pub returns-then-file-gt65536 : goal.returns-then-file-gt65536
-returns-then-file-gt65536 c = sym (turn_long _ _ c.if-file-gt65536.true)
+pub returns-then-file-gt-LONGEST : goal.returns-then-file-gt-LONGEST
+returns-then-file-gt-LONGEST c = sym (turn_long _ _ c.if-file-gt-LONGEST.true)
 
-pub returns : goal.returns
-returns c = ap turn_by c.count-counted.ensures ∙ sym (turn_counted _ _ c.if-file-gt65536.false)
+pub returns-in-Ok : goal.returns-in-Ok
+returns-in-Ok c = ap turn_by c.in-Ok.ensures ∙ sym (turn_counted _ _ c.if-file-gt-LONGEST.false)
+
+pub returns-in-Err : goal.returns-in-Err
+returns-in-Err c = ap turn_by c.in-Err.ensures ∙ sym (turn_counted _ _ c.if-file-gt-LONGEST.false)

@@ -1,14 +1,9 @@
--- `report_sums::add` meets its contract: a law for each exit.
+-- `report_sums::add` meets its contract.
 -- Assumes nothing.
-use Rattle.report_sums.proofs.Laws.{sum_stands, sum_passes}
+use Rattle.std.proofs.Common.{ap, ◌∙◌}
+use Rattle.report_rules.specs.Reports.{counted_of}
+use Rattle.report_sums.proofs.Laws.{answered}
 use Rattle.report_sums.proofs.add.Goals as goal
 
-pub returns-then-accepted-blocks : goal.returns-then-accepted-blocks
-returns-then-accepted-blocks c =
-    sum_stands c.args.a c.args.b c.total-accepted.ensures c.total-blocks.ensures c.total-bytes.ensures c.total-skipped.ensures c.totals-refused.ensures
-    c.if-accepted-blocks.true c.larger.ensures
-
 pub returns : goal.returns
-returns c =
-    sum_passes c.args.a c.args.b c.total-accepted.ensures c.total-blocks.ensures c.total-bytes.ensures c.total-skipped.ensures c.totals-refused.ensures
-    c.if-accepted-blocks.false
+returns c = ap counted_of c.ok_or.ensures.value ∙ answered c.args.a c.args.b c.sum.result c.sum.ensures

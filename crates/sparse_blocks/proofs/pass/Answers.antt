@@ -2,7 +2,6 @@
 -- Assumes nothing.
 use mathlib.Core.Path.{sym, ap, ◌∙◌}
 use native.Mathlib.Omega.{arith}
-use Rattle.sparse_rules.specs.Answers.{reading_of}
 use Rattle.sparse_blocks_rules.specs.Reading.{standing}
 use Rattle.sparse_blocks_rules.proofs.Turns.{more_on, passed_on, passed_end, passed_here}
 use Rattle.sparse_blocks.proofs.pass.Goals as goal
@@ -11,8 +10,8 @@ pub returns-in_default : goal.returns-in_default
 returns-in_default c =
     sym
     (c.loop-chunk.invariant
-    ∙ passed_end c.args.image.now c.args.reader.header c.loop-chunk.left c.loop-chunk.cursor c.loop-chunk.chunk c.loop-chunk.over c.in_default.field-0.number c.in_default.field-0.place
-    c.loop-chunk-test.true (sym c.read_chunk-r.ensures ∙ ap reading_of c.in_default.is)
+    ∙ passed_end c.args.image.now c.args.reader.header c.loop-chunk.left c.loop-chunk.cursor c.loop-chunk.chunk c.loop-chunk.over _ _
+    c.loop-chunk-test.true (sym c.in_default.ensures)
     ∙ ap (standing c.args.reader.header c.loop-chunk.cursor 0) (sym c.nothing.ensures))
 
 pub overflow_sub-over : goal.overflow_sub-over
@@ -27,8 +26,8 @@ loop-chunk-smaller c = let some = (more_on c.loop-chunk.chunk.blocks c.loop-chun
 pub loop-chunk-preserved : goal.loop-chunk-preserved
 loop-chunk-preserved c =
     c.loop-chunk.invariant
-    ∙ passed_on c.args.image.now c.args.reader.header c.loop-chunk.left c.loop-chunk.cursor c.loop-chunk.chunk c.loop-chunk.over c.in-Chunk.k c.in-Chunk.next
-    c.loop-chunk-test.true (sym c.read_chunk-r.ensures ∙ ap reading_of c.in-Chunk.is)
+    ∙ passed_on c.args.image.now c.args.reader.header c.loop-chunk.left c.loop-chunk.cursor c.loop-chunk.chunk c.loop-chunk.over c.in-Ok.k c.in-Ok.next
+    c.loop-chunk-test.true (sym c.in-Ok.ensures)
 
 pub returns : goal.returns
 returns c =

@@ -5,10 +5,11 @@ use Prim.Native.Nat.{ℕ, ◌≤◌}
 use native.Mathlib.Omega.{arith}
 use lib.ListN.{length}
 use lib.Bits.{bit_xor}
+use Rattle.std.proofs.lemmas.Result.{err_from_is_err_and}
 use Rattle.rules.specs.Answer.{accepted}
 use Rattle.crc32_rules.specs.Crc.{all_ones}
 use Rattle.sparse_blocks_rules.specs.Blocks.{needed}
-use Rattle.sparse_blocks_rules.specs.Pairs.{answer_of, image_of, Matched}
+use Rattle.sparse_blocks_rules.specs.Pairs.{Matched}
 use Rattle.sparse_blocks_rules.proofs.Pairing.{found_matched, needed_is}
 use Rattle.sparse_join_rules.specs.Join.{join}
 use Rattle.sparse_join_rules.proofs.Answering.{answers_refusal, answers_large, answers_short, answers_joined}
@@ -20,7 +21,7 @@ use Rattle.sparse_join.proofs.join.Goals.{After-bytes_of, Else-bytes_of-gt214748
 pair : (c : After-bytes_of) → Matched c.args.first.now c.args.second.now
     × (c.bytes_of.result ≡ needed c.args.first.now)
 pair c = (
-  found_matched c.args.first.now c.args.second.now (sym (ap answer_of c.in-Done.is) ∙ c.matched-found.ensures.answer),
+  found_matched c.args.first.now c.args.second.now c.in_ok-matched.ensures.answer,
   c.bytes_of.ensures ∙ needed_is c.args.first.now c.read_header-header.ensures,
 )
 
@@ -28,15 +29,16 @@ pair c = (
 small : (c : Else-bytes_of-gt2147483648) → needed c.args.first.now ≤ 2147483648
 small c = omega (arith, c.bytes_of.ensures ∙ needed_is c.args.first.now c.read_header-header.ensures, c.if-bytes_of-gt2147483648.false)
 
-pub returns-in_default : goal.returns-in_default
-returns-in_default c =
-    let r = answers_refusal c.args.first.now c.args.second.now c.args.out.now (sym (ap answer_of c.in_default.is) ∙ c.matched-found.ensures.answer) in
-    record { answer = ap answer_of c.in_default.is ∙ r.0; image = c.matched-found.ensures.image; contents = r.1 }
+pub returns-in_err-matched : goal.returns-in_err-matched
+returns-in_err-matched c =
+    let p = err_from_is_err_and c.from_residual.result c.from_residual.ensures.1 in
+    let r = answers_refusal c.args.first.now c.args.second.now c.args.out.now c.in_err-matched.ensures.answer in
+    record { answer = rw (p.1, p.2) r.0; image = rw (p.1, p.2) c.in_err-matched.ensures.image; contents = r.1 }
 
 pub returns-then-bytes_of-gt2147483648 : goal.returns-then-bytes_of-gt2147483648
 returns-then-bytes_of-gt2147483648 c =
     let r = answers_large c.args.first.now c.args.second.now c.args.out.now (pair (goal.at.returns-then-bytes_of-gt2147483648 c).After-bytes_of).0 (omega (arith, (pair (goal.at.returns-then-bytes_of-gt2147483648 c).After-bytes_of).1, c.if-bytes_of-gt2147483648.true)) in
-    record { answer = ap answer_of c.refused.ensures ∙ r.0; image = ap image_of c.refused.ensures ∙ r.1; contents = r.2 }
+    record { answer = r.0; image = r.1; contents = r.2 }
 
 pub measure-m-requires : goal.measure-m-requires
 measure-m-requires c = ((pair (goal.at.measure-m-requires c).After-bytes_of).0, small (goal.at.measure-m-requires c).Else-bytes_of-gt2147483648)
@@ -44,7 +46,7 @@ measure-m-requires c = ((pair (goal.at.measure-m-requires c).After-bytes_of).0, 
 pub returns-then-out-m : goal.returns-then-out-m
 returns-then-out-m c =
     let r = answers_short c.args.first.now c.args.second.now c.args.out.now (pair (goal.at.returns-then-out-m c).After-bytes_of).0 (small (goal.at.returns-then-out-m c).Else-bytes_of-gt2147483648) (omega (arith, c.measure-m.ensures.0, c.if-out-m.true)) in
-    record { answer = ap answer_of c.refused-then-out-m.ensures ∙ r.0; image = ap image_of c.refused-then-out-m.ensures ∙ r.1; contents = r.2 }
+    record { answer = r.0; image = r.1; contents = r.2 }
 
 pub put_chunks-state-requires : goal.put_chunks-state-requires
 put_chunks-state-requires c =

@@ -24,30 +24,30 @@ sized c =
 
 pub returns-then-len-at : goal.returns-then-len-at
 returns-then-len-at c =
-    rw c.refuse.ensures (sym (read_short c.args.image.now (length c.args.image.now) c.args.header c.args.cursor (omega arith)))
+    rw c.refusal.ensures (sym (read_short c.args.image.now (length c.args.image.now) c.args.header c.args.cursor (omega arith)))
 
 pub returns-then-len-at-2 : goal.returns-then-len-at-2
 returns-then-len-at-2 c =
-    rw c.refuse-then-len-at-2.ensures (sym (read_short c.args.image.now (length c.args.image.now) c.args.header c.args.cursor (omega arith)))
+    rw c.refusal-then-len-at-2.ensures (sym (read_short c.args.image.now (length c.args.image.now) c.args.header c.args.cursor (omega arith)))
 
 pub returns-then-len-at-3 : goal.returns-then-len-at-3
 returns-then-len-at-3 c =
-    rw c.refuse-then-len-at-3.ensures
-    (sym (read_cut c.args.image.now (length c.args.image.now) c.args.header c.args.cursor (omega arith) (sized (goal.at.returns-then-len-at-3 c).After-size_right c.if-size_right.true) (omega (arith, c.field-size.ensures))))
+    rw c.refusal-then-len-at-3.ensures
+    (sym (read_cut c.args.image.now (length c.args.image.now) c.args.header c.args.cursor (omega arith) (sized (goal.at.returns-then-len-at-3 c).After-size_right c.if-not-size_right.false) (omega (arith, c.field-size.ensures))))
 
 pub returns-then-header-end : goal.returns-then-header-end
 returns-then-header-end c =
-    rw c.refuse-then-header-end.ensures
-    (sym (read_past c.args.image.now (length c.args.image.now) c.args.header c.args.cursor (omega arith) (sized (goal.at.returns-then-header-end c).After-size_right c.if-size_right.true) (omega (arith, c.field-size.ensures)) (omega (arith, c.field-blocks.ensures))))
-
-pub returns-then-size_right : goal.returns-then-size_right
-returns-then-size_right c =
-    chunk_is c.args.image.now c.args.header c.args.cursor c.kind_of-kind.ensures
-    c.read16.ensures c.field-blocks.ensures c.field-size.ensures
-    ∙ sym
-    (read_whole c.args.image.now (length c.args.image.now) c.args.header c.args.cursor (omega arith) (sized (goal.at.returns-then-size_right c).After-size_right c.if-size_right.true) (omega (arith, c.field-size.ensures)) (omega (arith, c.field-blocks.ensures)))
+    rw c.refusal-then-header-end.ensures
+    (sym (read_past c.args.image.now (length c.args.image.now) c.args.header c.args.cursor (omega arith) (sized (goal.at.returns-then-header-end c).After-size_right c.if-not-size_right.false) (omega (arith, c.field-size.ensures)) (omega (arith, c.field-blocks.ensures))))
 
 pub returns : goal.returns
 returns c =
-    rw c.refuse-2.ensures
-    (sym (read_wrong c.args.image.now (length c.args.image.now) c.args.header c.args.cursor (omega arith) (sized (goal.at.returns c).After-size_right c.if-size_right.false)))
+    chunk_is c.args.image.now c.args.header c.args.cursor c.kind_of-kind.ensures
+    c.read16.ensures c.field-blocks.ensures c.field-size.ensures
+    ∙ sym
+    (read_whole c.args.image.now (length c.args.image.now) c.args.header c.args.cursor (omega arith) (sized (goal.at.returns c).After-size_right c.if-not-size_right.false) (omega (arith, c.field-size.ensures)) (omega (arith, c.field-blocks.ensures)))
+
+pub returns-then-not-size_right : goal.returns-then-not-size_right
+returns-then-not-size_right c =
+    rw c.refusal-then-not-size_right.ensures
+    (sym (read_wrong c.args.image.now (length c.args.image.now) c.args.header c.args.cursor (omega arith) (sized (goal.at.returns-then-not-size_right c).After-size_right c.if-not-size_right.true)))

@@ -14,7 +14,7 @@ overflow_add-i c =
 
 pub returns-then-same_bytes : goal.returns-then-same_bytes
 unfolding repeats_word
-returns-then-same_bytes c = rw (sym c.same_bytes.ensures ∙ c.if-same_bytes.true) (c.same_bytes-then-same_bytes.ensures ∙ rw c.after_word.ensures)
+returns-then-same_bytes c = rw (sym c.same_bytes.ensures ∙ c.if-same_bytes.true) (c.same_bytes-then-same_bytes.ensures ∙ rw c.saturating_sub.ensures)
 
 pub returns : goal.returns
 unfolding repeats_word

@@ -7,7 +7,7 @@ use native.Mathlib.Omega.{arith}
 use lib.ListN.{length}
 use Rattle.sparse_write_rules.specs.Kinds.{stored_kind}
 use Rattle.sparse_write_rules.proofs.Runs.{one_less}
-use Rattle.sparse_write_rules.specs.Numbered.{kind_numbered}
+use Rattle.sparse_write_rules.specs.KindOf.{kind_of}
 use Rattle.sparse_scan.specs.Scan.{run_blocks, after_run}
 use Rattle.sparse_scan.proofs.Whole.{whole_some}
 use Rattle.sparse_scan.proofs.Scanning.{run_none, run_some}
@@ -28,17 +28,17 @@ within c =
 
 -- what the scan from the second block on finds
 found : (c : After-count_alike-r) → (c.count_alike-r.result.blocks + 1
-    ≡ run_blocks (stored_kind c.args.flat.now c.args.block_size) c.args.block_size (kind_numbered c.args.kind) c.whole_blocks-n.result c.args.at)
-    × (kind_numbered c.count_alike-r.result.next
-    ≡ after_run (stored_kind c.args.flat.now c.args.block_size) c.args.block_size (kind_numbered c.args.kind) c.whole_blocks-n.result c.args.at)
+    ≡ run_blocks (stored_kind c.args.flat.now c.args.block_size) c.args.block_size (kind_of c.args.kind) c.whole_blocks-n.result c.args.at)
+    × (kind_of c.count_alike-r.result.next
+    ≡ after_run (stored_kind c.args.flat.now c.args.block_size) c.args.block_size (kind_of c.args.kind) c.whole_blocks-n.result c.args.at)
     × (c.count_alike-r.result.blocks + 1 ≤ c.whole_blocks-n.result)
 found c =
-    run_some (stored_kind c.args.flat.now c.args.block_size) c.args.block_size (kind_numbered c.args.kind) c.whole_blocks-n.result c.args.at
+    run_some (stored_kind c.args.flat.now c.args.block_size) c.args.block_size (kind_of c.args.kind) c.whole_blocks-n.result c.args.at
     (omega (arith, c.if-n-eq0.false)) c.count_alike-r.ensures.0 c.count_alike-r.ensures.1
 
 pub returns-then-n-eq0 : goal.returns-then-n-eq0
 returns-then-n-eq0 c =
-    let r = run_none (stored_kind c.args.flat.now c.args.block_size) c.args.block_size (kind_numbered c.args.kind) _ c.args.at (sym c.whole_blocks-n.ensures ∙ c.if-n-eq0.true) in
+    let r = run_none (stored_kind c.args.flat.now c.args.block_size) c.args.block_size (kind_of c.args.kind) _ c.args.at (sym c.whole_blocks-n.ensures ∙ c.if-n-eq0.true) in
     (r.0, omega arith, r.1)
 
 pub overflow_add-at : goal.overflow_add-at

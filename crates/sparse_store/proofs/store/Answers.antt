@@ -2,25 +2,23 @@
 -- Assumes nothing.
 use mathlib.Core.Path.{◌∙◌}
 use native.Mathlib.Omega.{arith}
-use Rattle.sparse_rules.specs.Answers.{answer_of}
-use Rattle.sparse_store.proofs.Entries.{says_same, storable, stored_whole, refused_whole, stored_is_no_refusal}
+use Rattle.std.proofs.lemmas.Result.{err_from_is_err_and}
+use Rattle.sparse_store.proofs.Entries.{storable, stored_whole, refused_whole}
 use Rattle.sparse_store.proofs.store.Goals as goal
 
-pub returns-in_default : goal.returns-in_default
-returns-in_default c =
+pub returns-in_err-found : goal.returns-in_err-found
+returns-in_err-found c =
+    let p = err_from_is_err_and c.from_residual.result c.from_residual.ensures.1 in
     record {
-      answer = c.judge-found.ensures;
-      contents = refused_whole c.args.image.now c.args.partition.now _ _ (says_same answer_of c.in_default.is c.judge-found.ensures);
+      answer = rw (p.1, p.2) c.in_err-found.ensures;
+      contents = refused_whole c.args.image.now c.args.partition.now _ _ c.in_err-found.ensures;
     }
 
-pub store_blocks-stored-requires : goal.store_blocks-stored-requires
-store_blocks-stored-requires c =
-    storable c.args.image.now c.args.partition.now c.in-Accepted.counts (says_same answer_of c.in-Accepted.is c.judge-found.ensures) c.in-Accepted.counts.written (omega arith)
+pub store_blocks-requires : goal.store_blocks-requires
+store_blocks-requires c =
+    storable c.args.image.now c.args.partition.now c.in_ok-found.found c.in_ok-found.ensures c.in_ok-found.found.written (omega arith)
 
-pub returns-in-Blocks : goal.returns-in-Blocks
-returns-in-Blocks c =
-    let e = says_same answer_of c.in-Accepted.is c.judge-found.ensures in
-    record { answer = e; contents = c.store_blocks-stored.ensures.contents ∙ stored_whole c.args.image.now c.args.partition.now c.in-Accepted.counts e }
-
-pub returns-in-Refused : goal.returns-in-Refused
-returns-in-Refused c = absurd (stored_is_no_refusal c.store_blocks-stored.ensures.answer c.in-Refused.is)
+pub returns : goal.returns
+returns c =
+    let e = c.in_ok-found.ensures in
+    record { answer = e; contents = c.store_blocks.ensures.contents ∙ stored_whole c.args.image.now c.args.partition.now c.in_ok-found.found e }

@@ -1,7 +1,6 @@
 -- `sparse_stream_feed::next_stretch` meets its contract. Assumes nothing.
-use mathlib.Core.Path.{refl}
-use Rattle.sparse_rules.specs.declared.Kind.TheVariants.{Raw, Fill, DontCare, Unknown}
-use Rattle.sparse_stream_feed.proofs.Turns.{stretch_is_head, stretch_is_chunk, stretch_is_pass, stretch_is_data}
+use Rattle.sparse_rules.specs.declared.Kind.TheVariants.{Raw, Fill}
+use Rattle.sparse_stream_feed.proofs.Turns.{stretch_is_head, stretch_is_chunk, stretch_is_pass, stretch_is_data, stretch_is_kept}
 use Rattle.sparse_stream_feed.proofs.next_stretch.Goals as goal
 
 pub returns-then-x-lt28 : goal.returns-then-x-lt28
@@ -11,12 +10,12 @@ returns-then-x-lt28 c =
 pub returns-then-data-gap : goal.returns-then-data-gap
 returns-then-data-gap c =
     stretch_is_pass c.args.x c.args.rest c.kind_now-kind.result c.data_bytes-data.result c.kind_now-kind.ensures c.data_bytes-data.ensures
-    c.if-x-lt28.false c.if-x.true c.least.result c.if-data-gap.true c.least.ensures
+    c.if-x-lt28.false c.if-x.true c.min.result c.if-data-gap.true c.min.ensures
 
 pub returns-in-Raw : goal.returns-in-Raw
 returns-in-Raw c =
     stretch_is_data c.args.x c.args.rest c.kind_now-kind.result c.data_bytes-data.result c.kind_now-kind.ensures c.data_bytes-data.ensures
-    c.if-x-lt28.false c.if-x.true c.least-in-Raw.result Raw c.if-data-gap.false c.in-Raw.is c.least-in-Raw.ensures
+    c.if-x-lt28.false c.if-x.true c.min-in-Raw.result Raw c.if-data-gap.false c.in-Raw.is c.min-in-Raw.ensures
 
 pub returns-in-Fill : goal.returns-in-Fill
 returns-in-Fill c =
@@ -25,13 +24,8 @@ returns-in-Fill c =
 
 pub returns-in-DontCare : goal.returns-in-DontCare
 returns-in-DontCare c =
-    stretch_is_data c.args.x c.args.rest c.kind_now-kind.result c.data_bytes-data.result c.kind_now-kind.ensures c.data_bytes-data.ensures
-    c.if-x-lt28.false c.if-x.true 1 DontCare c.if-data-gap.false c.in-DontCare.is refl
-
-pub returns-in-Unknown : goal.returns-in-Unknown
-returns-in-Unknown c =
-    stretch_is_data c.args.x c.args.rest c.kind_now-kind.result c.data_bytes-data.result c.kind_now-kind.ensures c.data_bytes-data.ensures
-    c.if-x-lt28.false c.if-x.true 1 Unknown c.if-data-gap.false c.in-Unknown.is refl
+    stretch_is_kept c.args.x c.args.rest c.kind_now-kind.result c.data_bytes-data.result c.kind_now-kind.ensures c.data_bytes-data.ensures
+    c.if-x-lt28.false c.if-x.true c.if-data-gap.false c.in-DontCare.is
 
 pub returns : goal.returns
 returns c =

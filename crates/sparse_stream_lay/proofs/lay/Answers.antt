@@ -1,6 +1,6 @@
 -- `sparse_stream_lay::lay` meets its contract. Assumes nothing.
 use mathlib.Core.Path.{◌∙◌}
-use Rattle.sparse_stream_lay.proofs.Laying.{word_four, lay_empty, lay_outside, lay_raw, lay_whole, lay_word, lay_early, lay_kept, lay_unknown}
+use Rattle.sparse_stream_lay.proofs.Laying.{word_four, lay_empty, lay_outside, lay_raw, lay_whole, lay_word, lay_early, lay_kept}
 use Rattle.sparse_stream_lay.proofs.lay.Goals as goal
 
 pub returns-then-n-eq0 : goal.returns-then-n-eq0
@@ -14,9 +14,9 @@ returns-then-not-is_in_data c =
 pub returns-in-Raw : goal.returns-in-Raw
 returns-in-Raw c =
     c.store_chunk.ensures ∙ lay_raw c.args.x c.args.bytes.now c.args.partition.now c.if-n-eq0.false
-    c.is_in_data.ensures c.if-not-is_in_data.false c.kind_now-kind.ensures c.gap_now-gap.ensures c.end_now.result c.less.result
+    c.is_in_data.ensures c.if-not-is_in_data.false c.kind_now-kind.ensures c.gap_now-gap.ensures c.end_now.result c.saturating_sub-from.result
     c.in-Raw.is
-    c.end_now.ensures c.less.ensures
+    c.end_now.ensures c.saturating_sub-from.ensures
 
 pub returns-then-n-gap : goal.returns-then-n-gap
 returns-then-n-gap c =
@@ -40,8 +40,3 @@ pub returns-in-DontCare : goal.returns-in-DontCare
 returns-in-DontCare c =
     lay_kept c.args.x c.args.bytes.now c.args.partition.now c.if-n-eq0.false c.is_in_data.ensures c.if-not-is_in_data.false
     c.kind_now-kind.ensures c.gap_now-gap.ensures c.in-DontCare.is
-
-pub returns-in-Unknown : goal.returns-in-Unknown
-returns-in-Unknown c =
-    lay_unknown c.args.x c.args.bytes.now c.args.partition.now c.if-n-eq0.false c.is_in_data.ensures c.if-not-is_in_data.false
-    c.kind_now-kind.ensures c.gap_now-gap.ensures c.in-Unknown.is

@@ -6,4 +6,4 @@ use Rattle.sparse_stream_lay.proofs.lay_fill.Goals as goal
 pub returns : goal.returns
 returns c =
     c.store_chunk.ensures ∙ fill-laid c.args.x c.args.word.now c.args.partition.now c.span_now-span.result
-    c.end_now.result c.less-from.result c.span_now-span.ensures c.end_now.ensures c.less-from.ensures
+    c.end_now.result c.saturating_sub-from.result c.span_now-span.ensures c.end_now.ensures c.saturating_sub-from.ensures

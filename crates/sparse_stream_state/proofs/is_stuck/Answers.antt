@@ -5,4 +5,4 @@ use Rattle.sparse_stream_state.proofs.is_stuck.Goals as goal
 pub returns : goal.returns
 unfolding stuck
 returns c =
-    rw c.less.ensures
+    rw c.saturating_sub.ensures

@@ -1,22 +1,25 @@
--- `sparse_text::put_image` meets its contract. The loop's invariant: the lines of the chunks that are left and the last line, put from here on, make the whole.
--- The measure is the number of chunks left. Assumes nothing.
-use mathlib.Core.Path.{sym, ap, ◌∙◌}
+-- `sparse_text::put_image` meets its contract.
+-- Assumes nothing.
+use mathlib.Core.Path.{◌≡◌, sym}
+use Prim.Native.Nat.{◌+◌, ◌-◌}
 use native.Mathlib.Omega.{arith}
-use Rattle.sparse_rules.specs.Answers.{reading_of}
 use Rattle.sparse_text.proofs.Chunks.{going_start, going_step, going_refused, going_done}
 use Rattle.sparse_text.proofs.put_image.Goals as goal
 
-pub loop-left-init : goal.loop-left-init
-loop-left-init c = going_start _ _ _ (omega arith) c.read_header-header.ensures c.put_header-next.ensures
+pub loop-init : goal.loop-init
+loop-init c =
+    let all : c.read_header-header.result.chunks - 0 ≡ c.read_header-header.result.chunks = omega arith in
+    rw all (going_start _ _ _ _ c.read_header-header.ensures)
 
-pub returns-in_default : goal.returns-in_default
-returns-in_default c =
-    λ ks e. absurd (going_refused c.args.input.now c.read_header-header.result c.args.counts c.put_header-next.new.out c.put_header-next.result c.loop-left.out c.loop-left.cursor c.loop-left.left c.loop-left.next c.loop-left.invariant c.in_default.field-0.number c.in_default.field-0.place c.loop-left-test.true (sym c.read_chunk-r.ensures ∙ ap reading_of c.in_default.is) ks e)
+pub returns-in-Err : goal.returns-in-Err
+returns-in-Err c =
+    λ ks e. absurd (going_refused _ _ _ _ _ _ _ c.loop.invariant _ _ (omega (arith, c.loop-test.true)) (sym c.in-Err.ensures) ks e)
 
-pub loop-left-preserved : goal.loop-left-preserved
-loop-left-preserved c =
-    going_step c.args.input.now c.read_header-header.result c.args.counts c.put_header-next.new.out c.put_header-next.result c.loop-left.out c.loop-left.cursor c.loop-left.left c.loop-left.next c.loop-left.invariant c.in-Chunk.chunk c.in-Chunk.after c.loop-left-test.true (sym c.read_chunk-r.ensures ∙ ap reading_of c.in-Chunk.is) c.put_chunk-next.ensures
+pub loop-preserved : goal.loop-preserved
+loop-preserved c =
+    let left : c.read_header-header.result.chunks - c.loop.counter - 1 ≡ c.read_header-header.result.chunks - (c.loop.counter + 1) = omega arith in
+    rw left at (going_step _ _ _ _ _ _ _ c.loop.invariant c.in-Ok.read.0 c.in-Ok.read.1 (omega (arith, c.loop-test.true)) (sym c.in-Ok.ensures) c.put_chunk.ensures)
 
 pub returns : goal.returns
 returns c =
-    going_done c.args.input.now c.read_header-header.result c.args.counts c.put_header-next.new.out c.put_header-next.result c.loop-left.out c.loop-left.cursor c.loop-left.left c.loop-left.next c.loop-left.invariant (omega arith) c.read_header-header.ensures c.put_header-next.ensures (omega arith) c.put_last.ensures
+    going_done _ _ _ _ _ _ _ c.loop.invariant c.read_header-header.ensures c.put_header.ensures (omega (arith, c.loop-test.false)) c.put_last.ensures

@@ -23,7 +23,7 @@ whole c = c.if-flat-block.false
 
 pub returns-then-not-block_right : goal.returns-then-not-block_right
 returns-then-not-block_right c =
-    rw c.refused.ensures
+    rw c.refusal.ensures
     (refuse_5 c.args.flat.now c.args.block_size c.args.out.now
     (sym c.block_right.ensures ∙ c.if-not-block_right.true))
 
@@ -32,7 +32,7 @@ nonzero_rem-flat c = omega (arith, (block_good c.args.block_size (right (goal.at
 
 pub returns-then-flat-block : goal.returns-then-flat-block
 returns-then-flat-block c =
-    rw c.refused-then-flat-block.ensures (refuse_13 c.args.flat.now c.args.block_size c.args.out.now (right (goal.at.returns-then-flat-block c).Else-not-block_right) c.if-flat-block.true)
+    rw c.refusal-then-flat-block.ensures (refuse_13 c.args.flat.now c.args.block_size c.args.out.now (right (goal.at.returns-then-flat-block c).Else-not-block_right) c.if-flat-block.true)
 
 pub nonzero_div-n : goal.nonzero_div-n
 nonzero_div-n c = omega (arith, (block_good c.args.block_size (right (goal.at.nonzero_div-n c).Else-not-block_right)).0)
@@ -40,18 +40,18 @@ nonzero_div-n c = omega (arith, (block_good c.args.block_size (right (goal.at.no
 pub measure-m-requires : goal.measure-m-requires
 measure-m-requires c =
     let l = length_good (length c.args.flat.now) c.args.block_size (whole (goal.at.measure-m-requires c).Else-flat-block) in
-    (l.1, right (goal.at.measure-m-requires c).Else-not-block_right, l.0)
+    record { whole = l.1; right = right (goal.at.measure-m-requires c).Else-not-block_right; small = l.0 }
 
 pub returns-then-out-m : goal.returns-then-out-m
 returns-then-out-m c =
-    rw c.refused-then-out-m.ensures
+    rw c.refusal-then-out-m.ensures
     (too_short c.args.flat.now c.args.block_size c.args.out.now (right (goal.at.returns-then-out-m c).Else-not-block_right) (whole (goal.at.returns-then-out-m c).Else-flat-block)
     c.measure-m.result.bytes c.measure-m.ensures.0 (omega (arith, c.if-out-m.true)))
 
 pub put_chunks-state-requires : goal.put_chunks-state-requires
 put_chunks-state-requires c =
     let l = length_good (length c.args.flat.now) c.args.block_size (whole (goal.at.put_chunks-state-requires c).Else-flat-block) in
-    (omega (arith, c.measure-m.ensures.0, c.if-out-m.false), l.1, right (goal.at.put_chunks-state-requires c).Else-not-block_right, l.0)
+    (omega (arith, c.measure-m.ensures.0, c.if-out-m.false), record { whole = l.1; right = right (goal.at.put_chunks-state-requires c).Else-not-block_right; small = l.0 })
 
 pub overflow_cast-n : goal.overflow_cast-n
 overflow_cast-n c =

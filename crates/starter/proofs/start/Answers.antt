@@ -1,18 +1,18 @@
 -- `starter::start` meets its contract. Assumes nothing.
-use mathlib.Core.List.{[], ◌∷◌}
-use native.Mathlib.Omega.{arith}
-use Rattle.slot_rules.specs.Answers.{change_of}
+use mathlib.Core.Path.{ap}
+use Rattle.slot_rules.specs.Answers.{number, deed_of, answer_of, change_of}
+use Rattle.slot_rules.proofs.Answers.{number_some}
 use Rattle.starter_rules.proofs.Starting.{ends_31, ends_51, ends_after}
 use Rattle.starter.proofs.start.Goals as goal
 
-pub returns-then-number-gt0 : goal.returns-then-number-gt0
-returns-then-number-gt0 c =
-    rw c.refuse.ensures (ends_31 c.args.given (c.args.a.now ∷ c.args.b.now ∷ c.args.c.now ∷ c.args.d.now ∷ []) c.args.misc.now c.args.loader.now c.args.space.now (change_of c.start-changed.result) c.start-changed.ensures c.number_of-number.result c.number_of-number.ensures (omega arith))
+pub returns-in-Err : goal.returns-in-Err
+returns-in-Err c =
+    rw c.refuse.ensures (ends_31 c.args.given _ c.args.misc.now c.args.loader.now c.args.space.now (change_of c.start-changed.result) c.start-changed.ensures (number c.in-Err.refusal) (number_some c.in-Err.refusal) (ap answer_of c.in-Err.is))
 
-pub returns-then-misc-ne32 : goal.returns-then-misc-ne32
-returns-then-misc-ne32 c =
-    rw c.refuse-then-misc-ne32.ensures (ends_51 c.args.given (c.args.a.now ∷ c.args.b.now ∷ c.args.c.now ∷ c.args.d.now ∷ []) c.args.misc.now c.args.loader.now c.args.space.now (change_of c.start-changed.result) c.start-changed.ensures c.number_of-number.result c.number_of-number.ensures (omega arith) c.if-misc-ne32.true)
+pub returns-in-Ok : goal.returns-in-Ok
+returns-in-Ok c =
+    rw c.refuse-in-Ok.ensures (ends_51 c.args.given _ c.args.misc.now c.args.loader.now c.args.space.now (change_of c.start-changed.result) c.start-changed.ensures _ (ap answer_of c.in-Ok.is) c.if-misc-ne32.true)
 
-pub returns : goal.returns
-returns c =
-    ends_after c.args.given (c.args.a.now ∷ c.args.b.now ∷ c.args.c.now ∷ c.args.d.now ∷ []) c.args.misc.now c.args.loader.now c.args.space.now (change_of c.start-changed.result) c.start-changed.ensures c.number_of-number.result c.number_of-number.ensures (omega arith) c.if-misc-ne32.false c.asks_recovery-asked.ensures c.follow-answer.ensures
+pub returns-in-Ok-2 : goal.returns-in-Ok-2
+returns-in-Ok-2 c =
+    ends_after c.args.given _ c.args.misc.now c.args.loader.now c.args.space.now (change_of c.start-changed.result) c.start-changed.ensures (deed_of c.in-Ok-2.outcome) (ap answer_of c.in-Ok-2.is) c.if-misc-ne32.false c.asks_recovery-asked.ensures c.follow-answer.ensures

@@ -1,8 +1,15 @@
 -- `tarpaulark_boot::locate_for` meets its contract. Assumes nothing.
-use mathlib.Core.Path.{ap, ◌∙◌}
+use mathlib.Core.Path.{sym, ap, ◌∙◌}
 use Rattle.rules.specs.Answer.{number_of}
-use Rattle.tarpaulark_numbers.specs.Numbers.{layout_numbers}
+use Rattle.boot_launch_rules.specs.Tests.{answer_of}
+use Rattle.tarpaulark_numbers.specs.Numbers.{layout_numbers, offered_numbers}
+use Rattle.tarpaulark_boot.proofs.Found.{launched}
 use Rattle.tarpaulark_boot.proofs.locate_for.Goals as goal
 
-pub returns : goal.returns
-returns c = (c.number_of.ensures ∙ ap number_of c.locate_for-found.ensures, c.located_answer.ensures ∙ ap layout_numbers c.locate_for-found.ensures)
+pub returns-in-Ok : goal.returns-in-Ok
+returns-in-Ok c =
+    (ap number_of (sym (ap answer_of c.in-Ok.is) ∙ c.locate_for-found.ensures), c.located_answer.ensures ∙ ap offered_numbers c.ok.ensures.value ∙ launched _ ∙ ap layout_numbers c.locate_for-found.ensures)
+
+pub returns-in-Err : goal.returns-in-Err
+returns-in-Err c =
+    (c.number.ensures ∙ ap number_of (sym (ap answer_of c.in-Err.is) ∙ c.locate_for-found.ensures), c.located_answer.ensures ∙ ap offered_numbers c.ok.ensures.value ∙ launched _ ∙ ap layout_numbers c.locate_for-found.ensures)

@@ -1,9 +1,9 @@
 -- `tarpaulark_images::header` meets its contract. Assumes nothing.
-use Rattle.tarpaulark_numbers.proofs.Images.{header_refused, header_passed}
+use Rattle.tarpaulark_images.proofs.Headers.{header_refused, header_passed}
 use Rattle.tarpaulark_images.proofs.header.Goals as goal
 
-pub returns-then-number-ne0 : goal.returns-then-number-ne0
-returns-then-number-ne0 c = (c.header_refusal-number.ensures, header_refused _ _ c.if-number-ne0.true)
+pub returns-in-Ok : goal.returns-in-Ok
+returns-in-Ok c = header_passed _ _ _ _ c.in-Ok.ensures c.header_answer.ensures
 
-pub returns : goal.returns
-returns c = (c.header_refusal-number.ensures, header_passed _ _ _ _ c.if-number-ne0.false c.read_header.ensures c.header_answer.ensures)
+pub returns-in-Err : goal.returns-in-Err
+returns-in-Err c = header_refused _ _ _ _ c.in-Err.ensures

@@ -6,4 +6,4 @@ use Rattle.tarpaulark_report.proofs.add.Goals as goal
 pub returns : goal.returns
 returns c =
     rw (← c.report_in.ensures, ← c.report_in-2.ensures)
-    (handed c.add-sum.ensures c.numbers_of.ensures)
+    (handed c.add.ensures c.hand_over.ensures)

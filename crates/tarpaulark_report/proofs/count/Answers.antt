@@ -4,4 +4,4 @@ use Rattle.tarpaulark_report.proofs.Numbers.{handed}
 use Rattle.tarpaulark_report.proofs.count.Goals as goal
 
 pub returns : goal.returns
-returns c = rw (← c.report_in.ensures) (handed c.count-counted.ensures c.numbers_of.ensures)
+returns c = rw (← c.report_in.ensures) (handed c.count.ensures c.hand_over.ensures)

@@ -1,7 +1,7 @@
 -- `boot_header::tests::missized` meets its contract. Assumes nothing.
-use Rattle.boot_header.proofs.Reading.{size_test}
+use borrow.Author.Rules.{rules}
+use Rattle.boot_header.proofs.Reading.{size_tested}
 use Rattle.boot_header.proofs.tests.missized.Goals as goal
 
 pub returns : goal.returns
-returns c =
-    size_test c.args.image.now c.row_in-row.result c.row_in-row.ensures c.word.result c.word.ensures
+returns c = size_tested _ _ c.row_in-row.ensures _ c.word.ensures _ (search rules)

@@ -1,25 +1,27 @@
--- `boot_image::sections::lay` meets its contract: three steps from where the fourth section begins. Assumes nothing.
-use lib.Dec.{lit<}
+-- `boot_image::sections::lay` meets its contract: one section after the other. Assumes nothing.
+use mathlib.Core.Path.{◌≡◌, refl, ap, ◌∙◌}
+use Prim.Native.Nat.{ℕ, ◌+◌}
+use native.Mathlib.Omega.{arith}
+use borrow.Author.Rules.{rules}
+use Rattle.boot_rules.specs.Pages.{round_up}
 use Rattle.boot_rules.proofs.Placing.{sections_six}
-use Rattle.boot_image.proofs.Laying.{known, ready_0, ready_1, ready_2, here_0, here_1, here_2}
+use Rattle.boot_image.proofs.Laying.{Known, ready, bytes, first_laid, one_more}
 use Rattle.boot_image.proofs.sections.lay.Goals as goal
 
-pub step_over-a-requires : goal.step_over-a-requires
-step_over-a-requires c = ready_0 (known c.type_inv.image c.page_in-page.ensures c.requires c.row_in-row.ensures) 3 _ c.lay_front-front.ensures.next (lit< tt)
+pub loop-i-init : goal.loop-i-init
+loop-i-init c = first_laid _ _ _ c.page_in-page.ensures refl
 
-pub step_over-b-requires : goal.step_over-b-requires
-step_over-b-requires c = ready_1 (known c.type_inv.image c.page_in-page.ensures c.requires c.row_in-row.ensures) 3 _ c.lay_front-front.ensures.next (lit< tt) _ c.step_over-a.ensures
+pub after-next-requires : goal.after-next-requires
+after-next-requires c =
+    let known : Known c.args.image.now c.page_in-page.result c.row_in-row.result = record { small = bytes _ c.type_inv.image; page = c.page_in-page.ensures; right = c.requires; row = c.row_in-row.ensures } in
+    let r = ready known c.loop-i.i c.loop-i.next (c.loop-i.invariant.start c.loop-i-test.true) in (r.0, r.2)
 
-pub step_over-c-requires : goal.step_over-c-requires
-step_over-c-requires c = ready_2 (known c.type_inv.image c.page_in-page.ensures c.requires c.row_in-row.ensures) 3 _ c.lay_front-front.ensures.next (lit< tt) _ c.step_over-a.ensures _ c.step_over-b.ensures
+pub loop-i-preserved : goal.loop-i-preserved
+loop-i-preserved c =
+    one_more _ (bytes _ c.type_inv.image) _ c.row_in-row.ensures _ _ _ c.loop-i.invariant c.loop-i-test.true _ c.word-size.ensures _ c.page_in-page.ensures _ _ c.map.ensures.cases (λ x y k. search rules) _ (c.after-next.ensures ∙ ap (λ (n : ℕ). round_up (c.loop-i.next + n) c.page_in-page.result) c.unwrap_or-bytes.ensures)
 
 pub returns : goal.returns
 returns c =
-    rw (
-      c.lay_front-front.ensures.kernel,
-      c.lay_front-front.ensures.ramdisk,
-      c.lay_front-front.ensures.second,
-      here_0 (known c.type_inv.image c.page_in-page.ensures c.requires c.row_in-row.ensures) 3 _ c.lay_front-front.ensures.next (lit< tt) _ c.step_over-a.ensures,
-      here_1 (known c.type_inv.image c.page_in-page.ensures c.requires c.row_in-row.ensures) 3 _ c.lay_front-front.ensures.next (lit< tt) _ c.step_over-a.ensures _ c.step_over-b.ensures,
-      here_2 (known c.type_inv.image c.page_in-page.ensures c.requires c.row_in-row.ensures) 3 _ c.lay_front-front.ensures.next (lit< tt) _ c.step_over-a.ensures _ c.step_over-b.ensures _ c.step_over-c.ensures,
-    ) (sections_six _)
+    let d = c.loop-i.invariant.done in
+    let n : c.loop-i.i ≡ 6 = omega arith in
+    rw (d 0 (omega arith), d 1 (omega arith), d 2 (omega arith), d 3 (omega arith), d 4 (omega arith), d 5 (omega arith)) (sections_six _)

@@ -11,5 +11,5 @@ returns-then-is_raw c =
 
 pub returns : goal.returns
 returns c =
-    front_all c.requires.0 c.requires.1 c.requires.2 c.requires.3 (c.both-kind.ensures ∙ ap (λ (z : Bool). cond z 3 4) c.same_block.ensures) c.least.ensures
+    front_all c.requires.0 c.requires.1 c.requires.2 c.requires.3 (c.both-kind.ensures ∙ ap (λ (z : Bool). cond z 3 4) c.same_block.ensures) c.min.ensures
     (ap₂ (λ (x y : Bool). x || y) (sym c.is_raw.ensures) (sym c.is_raw-2.ensures) ∙ c.if-is_raw.false)

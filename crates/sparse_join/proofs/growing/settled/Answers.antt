@@ -1,16 +1,20 @@
 -- `sparse_join::growing::settled` meets its contract, kind by kind.
 -- Assumes nothing.
+use mathlib.Core.Path.{ap, ◌∙◌}
+use Rattle.std.specs.Prelude.{Some}
+use Rattle.sparse_write_rules.specs.declared.Stored.{Stored}
 use Rattle.sparse_join_rules.proofs.Waiting.{settle_kept, settle_raw, settle_fill}
 use Rattle.sparse_join.proofs.growing.settled.Goals as goal
 
-pub returns-then-kind-eq0 : goal.returns-then-kind-eq0
-returns-then-kind-eq0 c =
-    settle_kept c.args.block c.args.g c.args.state c.bytes_of-len.ensures c.if-kind-eq0.true c.update_zeros.ensures
+pub returns-in-None : goal.returns-in-None
+returns-in-None c =
+    settle_kept c.args.block c.args.g c.args.state c.bytes_of-len.ensures c.in-None.is c.update_zeros.ensures
 
-pub returns-then-kind-eq1 : goal.returns-then-kind-eq1
-returns-then-kind-eq1 c =
-    settle_raw c.args.block c.args.g c.args.state c.if-kind-eq1.true
+pub returns-in-Some-Raw : goal.returns-in-Some-Raw
+returns-in-Some-Raw c =
+    settle_raw c.args.block c.args.g c.args.state (c.in-Some-Raw.is ∙ ap (λ (x : Stored). Some x) (rw c.in-Some-Raw.is at c.in-Some-Raw.field-0-is))
 
-pub returns : goal.returns
-returns c =
-    settle_fill c.args.block c.args.g c.args.state c.bytes_of-len.ensures c.if-kind-eq0.false c.if-kind-eq1.false c.update_word.ensures
+pub returns-in-Some-Fill : goal.returns-in-Some-Fill
+returns-in-Some-Fill c =
+    settle_fill c.args.block c.args.g c.args.state c.bytes_of-len.ensures
+    (c.in-Some-Fill.is ∙ ap (λ (x : Stored). Some x) (rw c.in-Some-Fill.is at c.in-Some-Fill.field-0-is)) c.update_word.ensures

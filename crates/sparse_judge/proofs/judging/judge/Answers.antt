@@ -1,36 +1,35 @@
 -- `sparse_judge::judging::judge` meets its contract: header, structure and checksum, each refusing before the next is looked at.
 -- Assumes nothing.
-use mathlib.Core.Path.{◌≡◌, sym, ap, ◌∙◌}
-use lib.ListN.{length}
-use Rattle.rules.specs.First.{first}
-use Rattle.sparse_rules.specs.Header.{header_tests}
+use Rattle.std.proofs.lemmas.Result.{err_from_is_err_and}
 use Rattle.sparse_rules.specs.Answers.{answer_of}
-use Rattle.sparse_rules.proofs.Facts.{header_facts}
-use Rattle.sparse_judge.proofs.Verdicts.{answer_header, answer_structure, answer_checked}
+use Rattle.sparse_judge.proofs.Verdicts.{answer_header, answer_structure, answer_checked, Passed, passed}
 use Rattle.sparse_judge.proofs.judging.judge.Goals as goal
-use Rattle.sparse_judge.proofs.judging.judge.Goals.{After-read_header-header}
+use Rattle.sparse_judge.proofs.judging.judge.Goals.{In_ok-header}
 
 -- the header passed its tests
-passed : (c : After-read_header-header) → first (header_tests c.args.image.now (length c.args.image.now) c.args.partition_len) ≡ 0
-passed c = sym c.header_refusal-number.ensures ∙ c.if-number-ne0.false
+header : (c : In_ok-header) → Passed c.args.image.now c.args.partition_len c.in_ok-header.header
+header c = passed c.args.image.now c.args.partition_len _ c.in_ok-header.ensures
 
-pub returns-then-number-ne0 : goal.returns-then-number-ne0
-returns-then-number-ne0 c =
-    rw c.refuse.ensures
-    (answer_header c.args.image.now c.args.partition_len c.header_refusal-number.result c.header_refusal-number.ensures c.if-number-ne0.true)
+pub returns-in_err-header : goal.returns-in_err-header
+returns-in_err-header c =
+    let p = err_from_is_err_and c.from_residual.result c.from_residual.ensures.1 in
+    rw (p.1, p.2) (answer_header c.args.image.now c.args.partition_len _ _ c.in_err-header.ensures)
 
-pub returns-in_default : goal.returns-in_default
-returns-in_default c =
-    rw c.in_default.is
-    (answer_structure c.args.image.now c.args.partition_len (passed (goal.at.returns-in_default c).After-read_header-header) c.read_header-header.result c.read_header-header.ensures c.in_default.field-0.number c.in_default.field-0.place (sym (ap answer_of c.in_default.is) ∙ c.structure-found.ensures))
+pub returns-in_err-counts : goal.returns-in_err-counts
+returns-in_err-counts c =
+    let p = err_from_is_err_and c.from_residual-in_err-counts.result c.from_residual-in_err-counts.ensures.1 in
+    let h = header (goal.at.returns-in_err-counts c).In_ok-header in
+    rw (p.1, p.2)
+    (answer_structure c.args.image.now c.args.partition_len h.tests c.in_ok-header.header h.is _ _ c.in_err-counts.ensures)
 
 pub checked-requires : goal.checked-requires
 checked-requires c =
-    let f = rw (← c.read_header-header.ensures) at (header_facts _ _ _ (passed (goal.at.checked-requires c).After-read_header-header)) in
-    (c.read_header-header.ensures, f.block_most, f.block_fours)
+    let h = header (goal.at.checked-requires c).In_ok-header in
+    (h.is, h.block_most, h.block_fours)
 
 pub returns : goal.returns
 returns c =
-    answer_checked c.args.image.now c.args.partition_len (passed (goal.at.returns c).After-read_header-header) c.read_header-header.result c.read_header-header.ensures
-    c.in-Accepted.counts (answer_of c.checked.result)
-    (sym (ap answer_of c.in-Accepted.is) ∙ c.structure-found.ensures) c.checked.ensures
+    let h = header (goal.at.returns c).In_ok-header in
+    answer_checked c.args.image.now c.args.partition_len h.tests c.in_ok-header.header h.is
+    c.in_ok-counts.counts (answer_of c.checked.result)
+    c.in_ok-counts.ensures c.checked.ensures

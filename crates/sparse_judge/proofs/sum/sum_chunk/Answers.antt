@@ -1,10 +1,9 @@
 -- `sparse_judge::sum::sum_chunk` meets its contract: each kind's cells are what the checksum goes over.
 -- Assumes nothing.
-use mathlib.Core.Path.{ap}
 use Prim.Native.Nat.{ℕ, ◌<◌}
 use native.Mathlib.Omega.{arith}
 use lib.ListN.{get_or}
-use Rattle.sparse_rules.specs.Counts.{writes}
+use Rattle.sparse_rules.proofs.Counting.{skipping}
 use Rattle.sparse_rules.proofs.SumLaws.{product, raw_inside}
 use Rattle.sparse_judge.proofs.Pending.{summed_raw, summed_fill, summed_kept}
 use borrow.Author.Rules.{rules}
@@ -38,8 +37,4 @@ returns-in-Fill c =
 
 pub returns-in-DontCare : goal.returns-in-DontCare
 returns-in-DontCare c =
-    summed_kept c.args.sum c.args.image.now c.args.block c.args.chunk c.requires.0 (ap writes c.in-DontCare.is)
-
-pub returns-in-Unknown : goal.returns-in-Unknown
-returns-in-Unknown c =
-    summed_kept c.args.sum c.args.image.now c.args.block c.args.chunk c.requires.0 (ap writes c.in-Unknown.is)
+    summed_kept c.args.sum c.args.image.now c.args.block c.args.chunk c.requires.0 (skipping c.in-DontCare.is)

@@ -2,4 +2,4 @@
 use Rattle.sparse_stream_feed.proofs.heads.await_chunks.Goals as goal
 
 pub returns : goal.returns
-returns c = rw c.read_header-header.ensures
+returns c = rw c.header_of-header.ensures

@@ -16,7 +16,7 @@ returns c =
     rw (
       c.sum_head.ensures,
       c.count_on.ensures,
-      c.less.ensures,
+      c.saturating_sub.ensures,
       c.size_now-size.ensures,
       c.blocks_now-blocks.ensures,
       c.kind_now-kind.ensures,

@@ -7,7 +7,7 @@ use Rattle.sparse_stream_feed.proofs.heads.take_chunk.Goals as goal
 
 pub pass_chunk-requires : goal.pass_chunk-requires
 pass_chunk-requires c =
-    (sym c.chunk_number-number.ensures ∙ c.if-number-eq0.true, ap (λ (h : Header). h.total) c.read_header-header.ensures)
+    (sym c.chunk_number-number.ensures ∙ c.if-number-eq0.true, ap (λ (h : Header). h.total) c.header_of.ensures)
 
 pub returns-then-number-eq0 : goal.returns-then-number-eq0
 unfolding chunk_taken

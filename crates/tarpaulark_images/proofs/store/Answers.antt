@@ -1,8 +1,0 @@
--- `tarpaulark_images::store` meets its contract. Assumes nothing.
-use mathlib.Core.Path.{ap, ◌∙◌}
-use Rattle.rules.specs.Answer.{number_of}
-use Rattle.tarpaulark_numbers.specs.Numbers.{verdict_numbers}
-use Rattle.tarpaulark_images.proofs.store.Goals as goal
-
-pub returns : goal.returns
-returns c = (c.verdict_number.ensures ∙ ap number_of c.store-verdict.ensures.answer, c.verdict_answer.ensures ∙ ap verdict_numbers c.store-verdict.ensures.answer, c.store-verdict.ensures.contents)
