@@ -3,7 +3,11 @@
 #![tactic(auto)]
 
 ghost use Rattle.std.specs.Prelude.{◌≡◌, Some};
-ghost use Rattle.boot_launch_rules.specs.Tests.{outside, unwanted, answer, answer_of};
+ghost use Rattle.rules.specs.Answer.{unless, number_of};
+ghost use Rattle.rules.specs.First.{first};
+ghost use Rattle.boot_rules.specs.Sections.{version_in, os_in};
+ghost use Rattle.boot_rules.specs.Tests as boot;
+ghost use Rattle.boot_launch_rules.specs.Tests.{outside, unwanted, launch_tests, answer, answer_of};
 
 use boot_header::{os_in, version_in};
 use boot_image::locate;
@@ -25,12 +29,14 @@ fn unwanted(rule: Rule, os: u32) -> bool
     rule.zero & (os != 0)
 }
 
-// Finds the sections of a boot image for a release and a kernel, 0 plain and 1 generic; any numbers and any bytes are
-// taken.
-pub fn locate_for(release: u32, kernel: u32, image: &[u8]) -> Result<Layout, LaunchRefusal>
-    ensures { answer_of result ≡ answer release kernel image.now }
+// The first refusal by a rule of an image, or else what the finder of sections answers. Where there is no rule, the image is
+// not looked at.
+#[tactic(auto, unfolding(boot_launch_rules::specs::Tests::launch_tests))]
+fn refusal(rule: Option<Rule>, image: &[u8]) -> Result<Layout, LaunchRefusal>
+    ensures { answer_of result
+        ≡ unless (first (launch_tests rule (number_of (boot.answer image.now)) (version_in image.now) (os_in image.now))) 0 (boot.answer image.now) }
 {
-    let rule = rule_of(release, kernel).ok_or(LaunchRefusal::NoRule)?;
+    let rule = rule.ok_or(LaunchRefusal::NoRule)?;
     let layout = locate(image)?;
     if outside(rule, version_in(image)) {
         return Err(LaunchRefusal::Version);
@@ -39,4 +45,13 @@ pub fn locate_for(release: u32, kernel: u32, image: &[u8]) -> Result<Layout, Lau
         return Err(LaunchRefusal::OsVersion);
     }
     Ok(layout)
+}
+
+// Finds the sections of a boot image for a release and a kernel, 0 plain and 1 generic; any numbers and any bytes are
+// taken.
+#[tactic(auto, unfolding(boot_launch_rules::specs::Tests::answer))]
+pub fn locate_for(release: u32, kernel: u32, image: &[u8]) -> Result<Layout, LaunchRefusal>
+    ensures { answer_of result ≡ answer release kernel image.now }
+{
+    refusal(rule_of(release, kernel), image)
 }

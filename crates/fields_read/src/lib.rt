@@ -22,15 +22,18 @@ fn rest(s: &[u8], at: usize) -> &[u8]
     s.get(at..).unwrap_or(&[])
 }
 
-// The N bytes at `at`, 0 for each past the end: a single load where the slice has them all.
+// The N bytes at `at`, 0 for each past the end. One test and a single load where the slice has them all: a slice of N bytes
+// has its first chunk without another.
 fn bytes_at<const N: usize>(s: &[u8], at: usize) -> [u8; N]
     ensures { number_at result 0 N ≡ number_at s.now at N }
 {
-    let left = rest(s, at);
-    match left.first_chunk() {
-        Some(chunk) => *chunk,
-        None => array::from_fn(|i| left.get(i).copied().unwrap_or(0)),
+    if within(s.len(), at, N) {
+        if let Some(chunk) = s[at..at + N].first_chunk() {
+            return *chunk;
+        }
     }
+    let left = rest(s, at);
+    array::from_fn(|i| left.get(i).copied().unwrap_or(0))
 }
 
 // The two bytes at `at`.

@@ -20,6 +20,7 @@ fn put_totals(out: &mut Text, report: Report)
 }
 
 // Puts the line of a refusal number and how many images got it, and nothing where none did.
+#[tactic(auto, using(text::proofs::Growing::puts_nothing), unfolding(report_rules::specs::Text::refused_line))]
 fn put_refused(out: &mut Text, number: u64, count: u64)
     ensures { Puts out.old (refused_line number count) out.new }
 {

@@ -81,6 +81,18 @@ pub fn pass(image: &[u8], reader: Reader, n: u32) -> Reader
     }
 }
 
+// Past n blocks, where the reader stands. Where its chunk has more of them, the chunk alone changes.
+#[inline(always)]
+fn pass_on(image: &[u8], reader: &mut Reader, n: u32)
+    ensures { reader.new ≡ passed_by image.now reader.old n }
+{
+    if n < reader.chunk.blocks {
+        reader.chunk = less(image.len(), reader.header.block, reader.chunk, n);
+        return;
+    }
+    *reader = pass(image, *reader, n);
+}
+
 // At the first block of an image.
 pub fn open(image: &[u8]) -> Reader
     ensures { result ≡ opened image.now }
@@ -121,12 +133,13 @@ impl<'a> Pair<'a> {
         }
     }
 
-    // Past n blocks of each.
+    // Past n blocks of each. Inlined, so that a loop over a pair keeps it in registers and makes no copy of it.
+    #[inline(always)]
     pub fn pass(&mut self, n: u32)
         ensures images { (self.new.first.now ≡ self.old.first.now) × (self.new.second.now ≡ self.old.second.now) }
         ensures readers { (self.new.a ≡ passed_by self.old.first.now self.old.a n) × (self.new.b ≡ passed_by self.old.second.now self.old.b n) }
     {
-        self.a = pass(self.first, self.a, n);
-        self.b = pass(self.second, self.b, n);
+        pass_on(self.first, &mut self.a, n);
+        pass_on(self.second, &mut self.b, n);
     }
 }

@@ -22,6 +22,7 @@ fn both(same: bool) -> Change
 
 // The first blocks, where both images write them: one where either is raw, since the next may be other bytes, and else all
 // that both chunks have.
+#[inline(always)]
 fn written(p: Pair<'_>) -> Piece<Change>
     requires { Beside p.first.now p.second.now p.a p.b × (0 < p.a.chunk.blocks)
         × (writes p.a.chunk.kind ≡ true) × (writes p.b.chunk.kind ≡ true) }
@@ -41,7 +42,8 @@ fn written(p: Pair<'_>) -> Piece<Change>
     }
 }
 
-// The first blocks, and their kind of change.
+// The first blocks, and their kind of change. Inlined, as `written` is, so that the pair is not copied for a call.
+#[inline(always)]
 pub(crate) fn front(p: Pair<'_>) -> Piece<Change>
     requires { Beside p.first.now p.second.now p.a p.b × (0 < p.a.chunk.blocks) }
     ensures { InFront change p.entry.first.now p.entry.second.now p.entry.a p.entry.b (kind_number result.kind) result.blocks }

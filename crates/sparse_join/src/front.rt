@@ -11,6 +11,7 @@ use sparse_rules::{Chunk, Kind};
 use sparse_write_rules::Stored;
 
 // The first of n blocks of a chunk that are of one kind. The data of a raw chunk are scanned as flat ones are.
+#[tactic(auto, using(sparse_join_rules::proofs::Fronts::first_kept))]
 fn first_alike(image: &[u8], chunk: Chunk, block: u32, n: u32) -> Piece<Option<Stored>>
     requires { Summable image.now block chunk × (4 ≤ block) × (0 < n) × (n ≤ chunk.blocks) }
     ensures { FirstAlike image.now block chunk n result.kind result.blocks }
@@ -31,7 +32,7 @@ fn first_alike(image: &[u8], chunk: Chunk, block: u32, n: u32) -> Piece<Option<S
         Kind::Fill => {
             let word = fields_read::read32(image, body);
             Piece {
-                kind: Some(Stored::Fill(word)),
+                kind: Some(Stored::Fill(word as u64)),
                 blocks: n,
             }
         }
@@ -42,7 +43,8 @@ fn first_alike(image: &[u8], chunk: Chunk, block: u32, n: u32) -> Piece<Option<S
     }
 }
 
-// The next blocks, joined.
+// The next blocks, joined. Inlined, so that the pair is not copied for a call.
+#[inline(always)]
 pub(crate) fn front(p: Pair<'_>) -> Piece<Option<Stored>>
     requires { Beside p.first.now p.second.now p.a p.b × (0 < p.a.chunk.blocks) }
     ensures { JoinedAlike p.entry.first.now p.entry.second.now p.entry.a p.entry.b result.kind result.blocks }

@@ -67,7 +67,7 @@ pub(crate) fn settled(g: Growing, block: u32, state: u32) -> u32
     match g.kind {
         None => crc32::update_zeros(state, len),
         Some(Stored::Raw) => state,
-        Some(Stored::Fill(word)) => crc32::update_word(state, word, len / 4),
+        Some(Stored::Fill(word)) => crc32::update_word(state, (word % 4294967296) as u32, len / 4),
     }
 }
 

@@ -61,6 +61,7 @@ fn put_piece(out: &mut [u8], g: Growing, image: &[u8], block: u32, chunk: Chunk,
 }
 
 // The next n blocks of two images, joined, put into the last chunk of the output, and the checksum's state.
+#[inline(always)]
 pub(crate) fn put_front(out: &mut [u8], g: Growing, p: Pair<'_>, n: u32, state: u32) -> u32
     requires { Beside p.first.now p.second.now p.a p.b
         × JoinedAlike p.first.now p.second.now p.a p.b g.kind n

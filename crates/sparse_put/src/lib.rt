@@ -1,5 +1,5 @@
 // The beginning of a chunk, put at its place of an output, and how long a chunk is. A part that does not fit whole changes
-// nothing. A chunk of which nothing is stored is don't care.
+// nothing. A chunk of which nothing is stored is don't care. Of a fill chunk's word the low four bytes count.
 #![tactic(auto)]
 
 ghost use Rattle.std.specs.Prelude.{◌≡◌};
@@ -47,13 +47,13 @@ fn put_fill(out: &mut [u8], at: usize, word: u32, blocks: u32, total: u32)
 }
 
 // The beginning of a chunk of a kind, by its blocks and its total size: its header, and the word of a fill chunk.
-#[tactic(auto, using(sparse_write_rules::proofs::Putting::top_kept, sparse_write_rules::proofs::Putting::top_raw))]
+#[tactic(auto, using(sparse_write_rules::proofs::Putting::top_kept, sparse_write_rules::proofs::Putting::top_raw, sparse_write_rules::proofs::Putting::top_fill))]
 pub fn put_top(out: &mut [u8], at: usize, kind: Option<Stored>, blocks: u32, total: u32)
     ensures { out.new ≡ placed out.old at (chunk_top (kind_of kind) blocks total) }
 {
     match kind {
         None => put_head(out, at, 0xCAC3, blocks, total),
         Some(Stored::Raw) => put_head(out, at, 0xCAC1, blocks, total),
-        Some(Stored::Fill(word)) => put_fill(out, at, word, blocks, total),
+        Some(Stored::Fill(word)) => put_fill(out, at, (word % 4294967296) as u32, blocks, total),
     }
 }

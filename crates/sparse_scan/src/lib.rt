@@ -25,7 +25,8 @@ pub struct Run {
 }
 
 // How many of n blocks from a place on are of a kind, up to the first that is not. A word that differs
-// ends the scan of its block, and the scan goes on with the next.
+// ends the scan of its block, and the scan goes on with the next. Inlined, so that a short run costs no call.
+#[inline(always)]
 fn count_alike(flat: &[u8], block: usize, from: usize, n: usize, kind: Option<Stored>) -> Alike
     requires { (from + n * block ≤ length flat.now) × (4 ≤ block) × (block % 4 ≡ 0) }
     ensures { (result.blocks ≡ leading (stored_kind flat.now block) block (kind_of kind) n from)
@@ -49,10 +50,10 @@ fn count_alike(flat: &[u8], block: usize, from: usize, n: usize, kind: Option<St
             }
             i = i + 4;
         }
-        if kind != Some(Stored::Fill(first)) {
+        if kind != Some(Stored::Fill(first as u64)) {
             return Alike {
                 blocks,
-                next: Some(Stored::Fill(first)),
+                next: Some(Stored::Fill(first as u64)),
             };
         }
     }

@@ -53,6 +53,6 @@ pub(crate) fn put_chunk(
     sparse_put::put_top(out, pos, Some(stored), blocks, total as u32);
     match stored {
         Stored::Raw => put_data(out, pos + 12, src, state),
-        Stored::Fill(word) => sum_fill(state, src, word),
+        Stored::Fill(word) => sum_fill(state, src, (word % 4294967296) as u32),
     }
 }

@@ -2,12 +2,12 @@
 -- Assumes nothing.
 use mathlib.Core.Path.{◌≡◌, refl, sym, ap, ap₂, ◌∙◌}
 use mathlib.Core.List.{List, [], ◌∷◌, ◌++◌, append_assoc, append-nil}
-use Prim.Native.Nat.{ℕ, ◌+◌, ◌-◌, ◌≤◌, ◌<◌}
+use Prim.Native.Nat.{ℕ, ◌+◌, ◌-◌, ◌%◌, ◌≤◌, ◌<◌}
 use native.Mathlib.Omega.{arith}
 use lib.ListN.{length, take, drop, length-append}
 use lib.Seq.{sets, length-sets}
 use Rattle.fields_rules.specs.Number.{bytes, packed, placed}
-use Rattle.fields_rules.proofs.Laws.{placed_whole, placed_none}
+use Rattle.fields_rules.proofs.Laws.{bytes_low, placed_whole, placed_none}
 use Rattle.fields_rules.proofs.Packed.{field_put}
 use Rattle.fields_rules.proofs.Sets.{sets-append, sets_at}
 use Rattle.crc32_rules.specs.Crc.{crc_from}
@@ -76,6 +76,11 @@ top_kept k z = refl
 pub top_raw : (k z : ℕ) → chunk_top raw k z ≡ chunk_header 0xCAC1 k z
 unfolding chunk_top chunk_header packed
 top_raw k z = refl
+
+-- a fill chunk with its word, of which 4 bytes count
+pub top_fill : (w k z : ℕ) → chunk_top (fill (w % 4294967296)) k z ≡ chunk_top (fill w) k z
+unfolding chunk_top
+top_fill w k z = ap (λ (r : List ℕ). chunk_header 0xCAC2 k z ++ r) (bytes_low 4 w 4294967296 refl (omega arith))
 
 -- a header and the fill word after it
 pub fill_put : (k w z : ℕ) (l : List ℕ) (i : ℕ) {l1 l2 : List ℕ} → i + 16 ≤ length l

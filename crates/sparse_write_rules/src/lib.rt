@@ -8,9 +8,10 @@ use sparse_rules::Refusal;
 pub type Written = Result<usize, Refusal>;
 
 // What an image stores of a block: its bytes, or the word that fills it. A block that is kept has nothing stored, so the kind
-// of any block is an `Option` of this.
+// of any block is an `Option` of this. A word of blocks' data has four bytes. One of more is taken too: it is the kind of no
+// block, and is put by its low four.
 #[derive(Clone, Copy, PartialEq, Eq)]
 pub enum Stored {
     Raw,
-    Fill(u32),
+    Fill(u64),
 }

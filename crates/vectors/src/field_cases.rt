@@ -6,11 +6,10 @@ use std::io::Write;
 // How many bytes a case has at most.
 const ROOM: usize = 4096;
 
-// The checksum of some bytes after a write into them.
-fn written<F: Fn(&mut [u8])>(bytes: &[u8], write: F) -> u32
+// The checksum of some bytes after a write into them, in a room that is lent.
+fn written<F: Fn(&mut [u8])>(room: &mut [u8; ROOM], bytes: &[u8], write: F) -> u32
     requires { F.IsAlwaysCallable write }
 {
-    let mut room = [0u8; ROOM];
     let out = &mut room[..bytes.len().min(ROOM)];
     fields_write::copy(out, 0, bytes);
     write(out);
@@ -30,13 +29,26 @@ pub(crate) fn case(line: &mut impl Write, cases: &mut Cases<'_>) -> io::Result<(
         fields_read::read32(bytes, place),
         fields_read::read64(bytes, place)
     )?;
+    let mut room = [0u8; ROOM];
     let low16 = (number % 65536) as u16;
     let low32 = (number % 4294967296) as u32;
     write!(
         line,
         " {} {} {}",
-        written(bytes, |out| fields_write::write16(out, place, low16)),
-        written(bytes, |out| fields_write::write32(out, place, low32)),
-        written(bytes, |out| fields_write::write64(out, place, number))
+        written(
+            &mut room,
+            bytes,
+            |out| fields_write::write16(out, place, low16)
+        ),
+        written(
+            &mut room,
+            bytes,
+            |out| fields_write::write32(out, place, low32)
+        ),
+        written(
+            &mut room,
+            bytes,
+            |out| fields_write::write64(out, place, number)
+        )
     )
 }

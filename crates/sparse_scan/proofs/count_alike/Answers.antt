@@ -6,6 +6,7 @@ use native.Mathlib.Omega.{arith}
 use lib.ListN.{length}
 use Rattle.sparse_write_rules.specs.Kinds.{raw, fill, stored_kind}
 use Rattle.std.specs.Prelude.{Some}
+use Rattle.std.proofs.Common.{rules, tests}
 use Rattle.std.proofs.lemmas.Bool.{not-true, not-false}
 use Rattle.sparse_write_rules.specs.declared.Stored.TheVariants.{Raw, Fill}
 use Rattle.sparse_write_rules.proofs.KindOf.{same_told, apart_told}
@@ -60,12 +61,12 @@ loop-i-preserved c =
 pub returns-then-ne-2 : goal.returns-then-ne-2
 returns-then-ne-2 c =
     scan_stop c.each.invariant c.each-test.true (is-fill (goal.at.returns-then-ne-2 c).After-loop-i)
-    (apart_told c.args.kind (Some (Fill c.read32-first.result)) (not-true _ (sym c.ne-in-each.ensures ∙ c.if-ne-2.true)))
+    (apart_told c.args.kind (Some (Fill c.read32-first.result)) (search (rules, tests)))
 
 pub each-preserved : goal.each-preserved
 each-preserved c =
     scan_on c.each.invariant c.each-test.true
-    (is-fill (goal.at.each-preserved c).After-loop-i ∙ sym (same_told c.args.kind (Some (Fill c.read32-first.result)) (not-false _ (sym c.ne-in-each.ensures ∙ c.if-ne-2.false))))
+    (is-fill (goal.at.each-preserved c).After-loop-i ∙ sym (same_told c.args.kind (Some (Fill c.read32-first.result)) (search (rules, tests))))
 
 pub returns : goal.returns
 returns c = scan_end c.each.invariant (omega arith)

@@ -1,9 +1,7 @@
 -- `boot_image::sections::lay` meets its contract: one section after the other. Assumes nothing.
-use mathlib.Core.Path.{◌≡◌, refl, ap, ◌∙◌}
-use Prim.Native.Nat.{ℕ, ◌+◌}
+use mathlib.Core.Path.{◌≡◌, refl}
 use native.Mathlib.Omega.{arith}
-use borrow.Author.Rules.{rules}
-use Rattle.boot_rules.specs.Pages.{round_up}
+use Rattle.std.proofs.Common.{rules, tests}
 use Rattle.boot_rules.proofs.Placing.{sections_six}
 use Rattle.boot_image.proofs.Laying.{Known, ready, bytes, first_laid, one_more}
 use Rattle.boot_image.proofs.sections.lay.Goals as goal
@@ -18,7 +16,7 @@ after-next-requires c =
 
 pub loop-i-preserved : goal.loop-i-preserved
 loop-i-preserved c =
-    one_more _ (bytes _ c.type_inv.image) _ c.row_in-row.ensures _ _ _ c.loop-i.invariant c.loop-i-test.true _ c.word-size.ensures _ c.page_in-page.ensures _ _ c.map.ensures.cases (λ x y k. search rules) _ (c.after-next.ensures ∙ ap (λ (n : ℕ). round_up (c.loop-i.next + n) c.page_in-page.result) c.unwrap_or-bytes.ensures)
+    one_more _ (bytes _ c.type_inv.image) _ c.row_in-row.ensures _ _ _ c.loop-i.invariant c.loop-i-test.true _ c.word-size.ensures _ c.page_in-page.ensures _ _ c.map.ensures.cases (λ x y k. search rules) c.after-next.result (search (rules, tests))
 
 pub returns : goal.returns
 returns c =

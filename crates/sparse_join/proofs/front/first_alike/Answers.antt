@@ -1,25 +1,15 @@
 -- `sparse_join::front::first_alike` meets its contract, kind by kind.
 -- Assumes nothing.
-use mathlib.Core.Path.{◌≡◌, refl, ap}
-use mathlib.Core.Bool.{false}
-use mathlib.Core.Logic.{◌⊎◌, inl, inr}
+use mathlib.Core.Path.{refl}
 use Prim.Native.Nat.{◌≤◌}
 use native.Mathlib.Omega.{arith}
 use borrow.Author.Rules.{rules}
-use Rattle.sparse_rules.specs.declared.Kind.{Kind}
-use Rattle.sparse_rules.specs.declared.Kind.TheVariants.{DontCare, Unknown}
-use Rattle.sparse_rules.specs.Counts.{writes}
 use Rattle.sparse_rules.proofs.SumLaws.{product}
 use Rattle.sparse_join_rules.specs.Ahead.{FirstAlike}
-use Rattle.sparse_join_rules.proofs.Fronts.{first_fill, first_kept}
+use Rattle.sparse_join_rules.proofs.Fronts.{first_fill}
 use Rattle.sparse_join.proofs.Scanned.{data_inside, scanned}
 use Rattle.sparse_join.proofs.front.first_alike.Goals as goal
 use Rattle.sparse_join.proofs.front.first_alike.Goals.{After-first_run-run}
-
--- a chunk of neither type is skipped
-skipped : {k : Kind} → k ≡ DontCare ⊎ k ≡ Unknown → writes k ≡ false
-skipped (inl e) = ap writes e
-skipped (inr e) = ap writes e
 
 -- what the scan of a raw chunk's data finds
 found : (c : After-first_run-run) → FirstAlike c.args.image.now c.args.block c.args.chunk c.args.n c.first_kind-first.result c.first_run-run.result.blocks
@@ -49,7 +39,3 @@ returns-in-Raw c = (found (goal.at.returns-in-Raw c).After-first_run-run).0
 pub returns-in-Fill : goal.returns-in-Fill
 returns-in-Fill c =
     first_fill c.requires.1 c.requires.2 c.in-Fill.is c.read32-word.ensures
-
-pub returns-in-DontCare : goal.returns-in-DontCare
-returns-in-DontCare c =
-    first_kept c.requires.1 c.requires.2 (skipped c.in-DontCare.is)

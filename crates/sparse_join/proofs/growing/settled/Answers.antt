@@ -1,7 +1,13 @@
 -- `sparse_join::growing::settled` meets its contract, kind by kind.
 -- Assumes nothing.
-use mathlib.Core.Path.{ap, ◌∙◌}
+use mathlib.Core.Path.{refl, ap, ◌∙◌}
+use mathlib.Core.List.{List}
+use Prim.Native.Nat.{ℕ, ◌/◌}
+use native.Mathlib.Omega.{arith}
 use Rattle.std.specs.Prelude.{Some}
+use Rattle.fields_rules.proofs.Laws.{bytes_low}
+use Rattle.crc32_rules.specs.Crc.{crc_from}
+use Rattle.crc32_rules.specs.Power.{repeated}
 use Rattle.sparse_write_rules.specs.declared.Stored.{Stored}
 use Rattle.sparse_join_rules.proofs.Waiting.{settle_kept, settle_raw, settle_fill}
 use Rattle.sparse_join.proofs.growing.settled.Goals as goal
@@ -17,4 +23,6 @@ returns-in-Some-Raw c =
 pub returns-in-Some-Fill : goal.returns-in-Some-Fill
 returns-in-Some-Fill c =
     settle_fill c.args.block c.args.g c.args.state c.bytes_of-len.ensures
-    (c.in-Some-Fill.is ∙ ap (λ (x : Stored). Some x) (rw c.in-Some-Fill.is at c.in-Some-Fill.field-0-is)) c.update_word.ensures
+    (c.in-Some-Fill.is ∙ ap (λ (x : Stored). Some x) (rw c.in-Some-Fill.is at c.in-Some-Fill.field-0-is))
+    (c.update_word.ensures
+    ∙ ap (λ (word : List ℕ). crc_from c.args.state (repeated (c.bytes_of-len.result / 4) word)) (bytes_low 4 c.in-Some-Fill.word 4294967296 refl (omega arith)))

@@ -5,4 +5,4 @@ use Rattle.text.proofs.Text.put_labelled.Goals as goal
 
 pub returns : goal.returns
 unfolding labelled
-returns c = puts_then c.put.ensures c.put_number.ensures
+returns c = puts_then (record { same = c.put.ensures.same; put = c.put.ensures.put }) c.put_number.ensures
